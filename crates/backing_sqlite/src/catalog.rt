@@ -4,7 +4,7 @@
 
 use crate::fault::StoreFault;
 use crate::judging::table_at;
-use crate::reading::{entries, first_row};
+use crate::reading::{all_rows, entries, first_row};
 use crate::schema_rows::read_def;
 use crate::shelf::Shelf;
 use crate::texts::log_text;
@@ -28,6 +28,9 @@ const TABLES: &str =
 /// Their columns: name, type with its numbers, and the places in the primary and in the foreign key, from 0.
 const COLUMNS: &str =
     "CREATE TABLE \"ttcache-columns\" (table_place INTEGER NOT NULL, place INTEGER NOT NULL, name TEXT NOT NULL, type TEXT NOT NULL, size INTEGER NOT NULL, scale INTEGER NOT NULL, not_null INTEGER NOT NULL, key_place INTEGER, foreign_place INTEGER, PRIMARY KEY (table_place, place)) STRICT";
+
+/// A new history has no entries.
+const NO_ENTRIES: &str = "INSERT INTO \"ttcache-history\" (id, entries) VALUES (1, 0)";
 
 /// Makes what isn't there yet, and reads the definitions.
 pub(crate) fn open_catalog<S: Alter>(
@@ -57,39 +60,43 @@ fn catalog_in<S: Alter>(alloc: Global, tx: &mut Transaction<'_, S>) -> Result<Sh
 }
 
 fn make_catalog<S: Alter>(tx: &mut Transaction<'_, S>) -> Result<(), StoreFault> {
-    give(tx, HISTORY, &[])?;
-    give(tx, TICKETS, &[])?;
-    give(tx, TABLES, &[])?;
-    give(tx, COLUMNS, &[])?;
-    give(
-        tx,
-        "INSERT INTO \"ttcache-history\" (id, entries) VALUES (1, 0)",
-        &[],
-    )?;
+    for text in &[HISTORY, TICKETS, TABLES, COLUMNS, NO_ENTRIES] {
+        give(tx, *text, &[])?;
+    }
     Ok(())
 }
 
 fn read_catalog<S: Alter>(alloc: Global, tx: &mut Transaction<'_, S>) -> Result<Shelf, StoreFault> {
     let text = "SELECT name, parent, cascades FROM \"ttcache-tables\" ORDER BY place";
-    let stored = tx.query_all(text, &[])?;
-    let mut shelf = Shelf::new(alloc);
+    let stored = all_rows(tx, text, &[])?;
     let position = entries(tx)?;
+    let mut shelf = Shelf::new(alloc);
     for (place, row) in stored.iter().enumerate() {
-        let def = read_def(alloc, tx, place, row)?;
-        make_log(alloc, tx, &def)?;
-        shelf.push(alloc, def)?;
+        add_table(alloc, tx, &mut shelf, place, row)?;
         forget(tx, &shelf, table_at(place)?, position)?;
     }
     Ok(shelf)
 }
 
-// A file from before the logs has none.
-fn make_log<S: Alter>(
+// Puts the table at a place behind those before it, and makes its log: a file from before the logs has none.
+fn add_table<S: Alter>(
+    alloc: Global,
+    tx: &mut Transaction<'_, S>,
+    shelf: &mut Shelf,
+    place: usize,
+    row: &sqlite::Row,
+) -> Result<(), StoreFault> {
+    let def = read_def(alloc, tx, place, row)?;
+    make_log(alloc, tx, &def)?;
+    shelf.push(alloc, def)
+}
+
+/// Makes the log of a table, where it isn't there.
+pub(crate) fn make_log<S: Alter>(
     alloc: Global,
     tx: &mut Transaction<'_, S>,
     def: &TableDef,
 ) -> Result<(), StoreFault> {
     let text = log_text(alloc, def)?;
-    let _ = give(tx, text.as_str(), &[])?;
-    Ok(())
+    give(tx, text.as_str(), &[])
 }

@@ -36,16 +36,29 @@ pub(crate) fn changes<S: Alter>(
         return Err(StoreFault::Failed);
     }
     let log = log_since(alloc, &mut tx, shelf, since, trees)?;
-    let mut touched = Vec::with_capacity(alloc, trees.len())?;
-    for tree in trees {
-        let one = touched_in(alloc, &mut tx, shelf, tree, log.as_slice(), wants)?;
-        touched.push(one)?;
-    }
+    let touched = touched_by(alloc, &mut tx, shelf, trees, log.as_slice(), wants)?;
     Ok(Changes {
         position,
         log: Seq::from_vec(log),
         touched: Seq::from_vec(touched),
     })
+}
+
+// Of each tree the instances.
+fn touched_by<S: Alter>(
+    alloc: Global,
+    tx: &mut Transaction<'_, S>,
+    shelf: &Shelf,
+    trees: &[Tree],
+    log: &[RowChange],
+    wants: &[RowKey],
+) -> Result<Vec<Seq<Touched>>, StoreFault> {
+    let mut touched = Vec::with_capacity(alloc, trees.len())?;
+    for tree in trees {
+        let one = touched_in(alloc, tx, shelf, tree, log, wants)?;
+        touched.push(one)?;
+    }
+    Ok(touched)
 }
 
 // One entry for each key of the tables of the trees whose row differs.
@@ -95,13 +108,14 @@ fn add_changes<S: Alter>(
     };
     for (key, old) in first_rows(alloc, tx, shelf, since, table, def)? {
         let new = row_at(alloc, tx, shelf, table, &key)?;
-        if !is_same_place(&old, &new) {
-            log.push(RowChange {
-                table,
-                key,
-                old,
-                new,
-            })?;
+        let change = RowChange {
+            table,
+            key,
+            old,
+            new,
+        };
+        if !is_same_place(&change.old, &change.new) {
+            log.push(change)?;
         }
     }
     Ok(())
@@ -124,26 +138,77 @@ fn first_rows<S: Alter>(
     table: TableId,
     def: &TableDef,
 ) -> Result<Vec<(Key, Option<Row>)>, StoreFault> {
-    let mut out = Vec::new(alloc);
-    let Ok(since) = i64::try_from(since.0) else {
-        return Ok(out);
+    let mut first = FirstRows {
+        seen: Rows::new(alloc),
+        rows: Vec::new(alloc),
     };
-    let mut seen = Rows::new(alloc);
-    let mut rows = tx.query(shelf.texts(table)?.logged.as_str(), &[ValueRef::Int(since)])?;
-    for _ in 0..u64::MAX {
-        rows.advance()?;
-        match rows.get() {
-            None => return Ok(out),
-            Some(stored) => {
-                let key = key_of(alloc, def, stored)?;
-                if seen.insert(key.copied(alloc)?, Row::from_vec(Vec::new(alloc)))? {
-                    let old = old_row(alloc, def, stored)?;
-                    out.push((key, old))?;
-                }
+    if let Ok(since) = i64::try_from(since.0) {
+        let text = shelf.texts(table)?.logged.as_str();
+        first.read(alloc, tx, text, since, def)?;
+    }
+    Ok(first.into_rows())
+}
+
+// Keys with the row before the first entry of each, in the order of these entries. The keys are also kept as those of rows
+// without values.
+struct FirstRows {
+    seen: Rows,
+    rows: Vec<(Key, Option<Row>)>,
+}
+
+impl Drop for FirstRows {
+    fn drop(self) {
+        let Self { seen: _, rows: _ } = self;
+    }
+}
+
+impl FirstRows {
+    fn into_rows(self) -> Vec<(Key, Option<Row>)> {
+        let Self { seen: _, rows } = self;
+        rows
+    }
+
+    // Takes in the entries that the text gives of a position.
+    fn read<S: Alter>(
+        &mut self,
+        alloc: Global,
+        tx: &mut Transaction<'_, S>,
+        text: &str,
+        since: i64,
+        def: &TableDef,
+    ) -> Result<(), StoreFault> {
+        let mut stored = tx.query(text, &[ValueRef::Int(since)])?;
+        for _ in 0..u64::MAX {
+            stored.advance()?;
+            match stored.get() {
+                None => return Ok(()),
+                Some(entry) => self.add(alloc, def, entry)?,
             }
         }
+        Ok(())
     }
-    Ok(out)
+
+    // Takes in an entry of the log.
+    fn add(
+        &mut self,
+        alloc: Global,
+        def: &TableDef,
+        entry: &sqlite::Row,
+    ) -> Result<(), StoreFault> {
+        let key = key_of(alloc, def, entry)?;
+        if self.is_first(alloc, &key)? {
+            let old = old_row(alloc, def, entry)?;
+            self.rows.push((key, old))?;
+        }
+        Ok(())
+    }
+
+    // Whether the key wasn't met before.
+    fn is_first(&mut self, alloc: Global, key: &Key) -> Result<bool, StoreFault> {
+        let key = key.copied(alloc)?;
+        let new = self.seen.insert(key, Row::from_vec(Vec::new(alloc)))?;
+        Ok(new)
+    }
 }
 
 // The row before, where there was one.
@@ -173,19 +238,38 @@ fn touched_in<S: Alter>(
 ) -> Result<Seq<Touched>, StoreFault> {
     let wanted = wanted_roots(alloc, tx, shelf, tree, wants)?;
     let roots = touched_roots(alloc, tx, shelf, tree, log, wants)?;
+    instances_at(alloc, tx, shelf, tree, &roots, &wanted)
+}
+
+// The instances of these roots.
+fn instances_at<S: Alter>(
+    alloc: Global,
+    tx: &mut Transaction<'_, S>,
+    shelf: &Shelf,
+    tree: &Tree,
+    roots: &Rows,
+    wanted: &Rows,
+) -> Result<Seq<Touched>, StoreFault> {
     let mut out = Vec::with_capacity(alloc, roots.len())?;
     for place in 0..roots.len() {
         let (root, _) = roots.entry_at(place);
-        let rows = rows_under(alloc, tx, shelf, tree, root)?;
-        out.push(Touched {
-            instance: Instance {
-                root: root.copied(alloc)?,
-                rows,
-            },
-            wanted: wanted.contains_key(root),
-        })?;
+        let instance = instance_at(alloc, tx, shelf, tree, root)?;
+        let wanted = wanted.contains_key(root);
+        out.push(Touched { instance, wanted })?;
     }
     Ok(Seq::from_vec(out))
+}
+
+fn instance_at<S: Alter>(
+    alloc: Global,
+    tx: &mut Transaction<'_, S>,
+    shelf: &Shelf,
+    tree: &Tree,
+    root: &Key,
+) -> Result<Instance, StoreFault> {
+    let rows = rows_under(alloc, tx, shelf, tree, root)?;
+    let root = root.copied(alloc)?;
+    Ok(Instance { root, rows })
 }
 
 // The root keys of the instances that a want names.
@@ -198,8 +282,7 @@ fn wanted_roots<S: Alter>(
 ) -> Result<Rows, StoreFault> {
     let mut roots = Rows::new(alloc);
     for want in wants {
-        let found = root_of(alloc, tx, shelf, tree, want.table, &want.key)?;
-        put_root(alloc, found, &mut roots)?;
+        add_root(alloc, tx, shelf, tree, want.table, &want.key, &mut roots)?;
     }
     Ok(roots)
 }
@@ -215,12 +298,37 @@ fn touched_roots<S: Alter>(
 ) -> Result<Rows, StoreFault> {
     let mut roots = wanted_roots(alloc, tx, shelf, tree, wants)?;
     for change in log {
-        let old = old_root(alloc, tx, shelf, tree, change)?;
-        put_root(alloc, old, &mut roots)?;
-        let found = root_of(alloc, tx, shelf, tree, change.table, &change.key)?;
-        put_root(alloc, found, &mut roots)?;
+        add_roots(alloc, tx, shelf, tree, change, &mut roots)?;
     }
     Ok(roots)
+}
+
+// The root keys that the row of a change was and is reached from come to these.
+fn add_roots<S: Alter>(
+    alloc: Global,
+    tx: &mut Transaction<'_, S>,
+    shelf: &Shelf,
+    tree: &Tree,
+    change: &RowChange,
+    roots: &mut Rows,
+) -> Result<(), StoreFault> {
+    let old = old_root(alloc, tx, shelf, tree, change)?;
+    put_root(alloc, old, roots)?;
+    add_root(alloc, tx, shelf, tree, change.table, &change.key, roots)
+}
+
+// The root key that the row of a key is reached from comes to these.
+fn add_root<S: Alter>(
+    alloc: Global,
+    tx: &mut Transaction<'_, S>,
+    shelf: &Shelf,
+    tree: &Tree,
+    table: TableId,
+    key: &Key,
+    roots: &mut Rows,
+) -> Result<(), StoreFault> {
+    let found = root_of(alloc, tx, shelf, tree, table, key)?;
+    put_root(alloc, found, roots)
 }
 
 // The root key that the row of a change was reached from: a root row's own, and of a child row that had a parent row the

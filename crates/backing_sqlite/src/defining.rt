@@ -1,10 +1,11 @@
 //! New backing tables.
 
+use crate::catalog::make_log;
 use crate::fault::StoreFault;
 use crate::judging::table_at;
 use crate::schema_rows::write_def;
 use crate::shelf::Shelf;
-use crate::texts::{create_text, index_text, log_text};
+use crate::texts::{create_text, index_text};
 use crate::writing::{add_entry, give};
 use sqlite::{Alter, Connection, Transaction};
 use std::alloc::Global;
@@ -55,10 +56,9 @@ fn make_in<S: Alter>(
 ) -> Result<(), StoreFault> {
     make_table(alloc, tx, shelf, def)?;
     make_index(alloc, tx, def)?;
-    let _ = give(tx, log_text(alloc, def)?.as_str(), &[])?;
+    make_log(alloc, tx, def)?;
     write_def(tx, place, def)?;
-    let _ = add_entry(tx)?;
-    Ok(())
+    add_entry(tx).map(|_| ())
 }
 
 fn make_table<S: Alter>(
@@ -72,8 +72,7 @@ fn make_table<S: Alter>(
         Some(foreign) => shelf.def(foreign.parent),
     };
     let text = create_text(alloc, def, parent)?;
-    let _ = give(tx, text.as_str(), &[])?;
-    Ok(())
+    give(tx, text.as_str(), &[])
 }
 
 fn make_index<S: Alter>(
@@ -81,11 +80,11 @@ fn make_index<S: Alter>(
     tx: &mut Transaction<'_, S>,
     def: &TableDef,
 ) -> Result<(), StoreFault> {
-    match index_text(alloc, def)? {
+    match &def.foreign_key {
         None => Ok(()),
-        Some(text) => {
-            let _ = give(tx, text.as_str(), &[])?;
-            Ok(())
+        Some(foreign) => {
+            let text = index_text(alloc, def, foreign)?;
+            give(tx, text.as_str(), &[])
         }
     }
 }

@@ -34,7 +34,7 @@ impl From<Error> for StoreFault {
 }
 
 /// Why a file wasn't opened.
-#[derive(Debug, Drop, thiserror::Error)]
+#[derive(Clone, Copy, Debug, thiserror::Error)]
 pub enum OpenError {
     /// The store refused it.
     #[error("{0}")]

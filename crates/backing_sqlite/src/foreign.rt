@@ -45,10 +45,10 @@ fn foreign_in<S: Alter>(
     let done = write_in(alloc, tx, shelf, changes)?;
     match &done {
         Done::Broken(_) => Ok(done),
-        Done::Rows(_) => {
-            let _ = add_entry(tx)?;
-            Ok(done)
-        }
+        Done::Rows(_) => match add_entry(tx) {
+            Ok(_) => Ok(done),
+            Err(fault) => Err(fault),
+        },
     }
 }
 
@@ -60,20 +60,33 @@ pub(crate) fn write_in<S: Alter>(
     shelf: &Shelf,
     changes: &[Change],
 ) -> Result<Done, StoreFault> {
+    let choice = family_of(alloc, shelf, changes)?;
+    let mut tables = load(alloc, tx, shelf, &choice)?;
+    match write_all(alloc, &mut tables, changes) {
+        Ok(written) => match write_ops(alloc, tx, shelf, written.ops.as_slice()) {
+            Ok(()) => Ok(Done::Rows(written.rows as u64)),
+            Err(fault) => Err(fault),
+        },
+        Err(error) => refused(error),
+    }
+}
+
+// The tables of the writes, with those that refer to these or are referred to.
+fn family_of(alloc: Global, shelf: &Shelf, changes: &[Change]) -> Result<Choice, StoreFault> {
     let mut choice = Choice::none(alloc, shelf.schema().len())?;
     for change in changes {
         choice.add(change.table);
     }
     choice.add_family(shelf.schema())?;
-    let mut tables = load(alloc, tx, shelf, &choice)?;
-    match write_all(alloc, &mut tables, changes) {
-        Err(ApplyError::Rule(rule)) => Ok(Done::Broken(rule)),
-        Err(ApplyError::Differs(_, _, _)) => Err(StoreFault::Failed),
-        Err(ApplyError::Memory) => Err(StoreFault::Memory),
-        Ok(written) => {
-            write_ops(alloc, tx, shelf, written.ops.as_slice())?;
-            Ok(Done::Rows(written.rows as u64))
-        }
+    Ok(choice)
+}
+
+// What is told of writes that weren't done.
+fn refused(error: ApplyError) -> Result<Done, StoreFault> {
+    match error {
+        ApplyError::Rule(rule) => Ok(Done::Broken(rule)),
+        ApplyError::Differs(_, _, _) => Err(StoreFault::Failed),
+        ApplyError::Memory => Err(StoreFault::Memory),
     }
 }
 

@@ -53,23 +53,50 @@ pub(crate) fn difference_at<S: Alter>(
     op: &Op,
 ) -> Result<Option<Difference>, StoreFault> {
     let table = op.table();
-    let Some(def) = shelf.def(table) else {
-        let key = Key::from_vec(Vec::new(alloc));
-        return Ok(Some(Difference {
+    match shelf.def(table) {
+        None => Ok(Some(Difference {
             table,
-            key,
+            key: Key::from_vec(Vec::new(alloc)),
             row: None,
-        }));
-    };
+        })),
+        Some(def) => {
+            let there = found_at(alloc, tx, shelf, table, def, op)?;
+            match is_as_wanted(alloc, def, op, &there.row) {
+                Ok(true) => difference_around(alloc, tx, shelf, def, op, &there.key),
+                Ok(false) => Ok(Some(there)),
+                Err(fault) => Err(fault),
+            }
+        }
+    }
+}
+
+// The key that the operation names, and the row there.
+fn found_at<S: Alter>(
+    alloc: Global,
+    tx: &mut Transaction<'_, S>,
+    shelf: &Shelf,
+    table: TableId,
+    def: &TableDef,
+    op: &Op,
+) -> Result<Difference, StoreFault> {
     let key = key_of_row(alloc, def, named_row(op))?;
     let row = row_at(alloc, tx, shelf, table, &key)?;
-    if !is_as_wanted(alloc, def, op, &row)? {
-        return Ok(Some(Difference { table, key, row }));
-    }
+    Ok(Difference { table, key, row })
+}
+
+// The parent that is missing, or the least child that is there, where the operation's own row is as it wants it.
+fn difference_around<S: Alter>(
+    alloc: Global,
+    tx: &mut Transaction<'_, S>,
+    shelf: &Shelf,
+    def: &TableDef,
+    op: &Op,
+    key: &Key,
+) -> Result<Option<Difference>, StoreFault> {
     match op {
         Op::Insert(_, row) => missing_parent(alloc, tx, shelf, def, row),
         Op::Update(_, _, row) => missing_parent(alloc, tx, shelf, def, row),
-        Op::Delete(_, _) => first_child(alloc, tx, shelf, table, &key),
+        Op::Delete(table, _) => first_child(alloc, tx, shelf, *table, key),
     }
 }
 

@@ -7,6 +7,7 @@ mod catalog;
 mod changing;
 mod closure;
 mod defining;
+mod draft;
 mod fault;
 mod foreign;
 mod judging;

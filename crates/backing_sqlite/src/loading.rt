@@ -74,13 +74,24 @@ fn load_rows<S: Alter>(
         rows.advance()?;
         match rows.get() {
             None => return Ok(()),
-            Some(stored) => {
-                let row = row_of(alloc, def.columns.as_slice(), stored)?;
-                put(alloc, tables, &[Op::Insert(table, row)])?;
-            }
+            Some(stored) => load_row(alloc, table, def, stored, tables)?,
         }
     }
     Ok(())
+}
+
+fn load_row(
+    alloc: Global,
+    table: TableId,
+    def: &TableDef,
+    stored: &sqlite::Row,
+    tables: &mut Tables,
+) -> Result<(), StoreFault>
+    requires { IsKeyed tables.old }
+    ensures keyed { IsKeyed tables.new }
+{
+    let row = row_of(alloc, def.columns.as_slice(), stored)?;
+    put(alloc, tables, &[Op::Insert(table, row)])
 }
 
 fn put(alloc: Global, tables: &mut Tables, ops: &[Op]) -> Result<(), StoreFault>

@@ -7,7 +7,8 @@ use crate::values::{lent_all, row_of};
 use indexed_rows::{Rows, key_at};
 use instances::{Child, Root, Tree, foreign_places, selects};
 use outside::{Instance, Reached};
-use row_types::Key;
+use row_types::{Key, Row};
+use sqlite::types::ValueRef;
 use sqlite::{Alter, Connection, Transaction};
 use std::alloc::Global;
 use table_defs::TableDef;
@@ -40,12 +41,13 @@ fn instance_with<S: Alter>(
     table: TableId,
     key: &Key,
 ) -> Result<Option<Instance>, StoreFault> {
-    match root_of(alloc, tx, shelf, tree, table, key)? {
-        None => Ok(None),
-        Some(root) => {
+    match root_of(alloc, tx, shelf, tree, table, key) {
+        Ok(None) => Ok(None),
+        Ok(Some(root)) => {
             let rows = rows_under(alloc, tx, shelf, tree, &root)?;
             Ok(Some(Instance { root, rows }))
         }
+        Err(fault) => Err(fault),
     }
 }
 
@@ -65,22 +67,57 @@ pub(crate) fn root_of<S: Alter>(
     let mut place = start;
     let mut key = key.copied(alloc)?;
     for _ in 0..tree.children.len() {
-        if place == 0 {
-            break;
+        match above(alloc, tx, shelf, tree, place, &key)? {
+            None => break,
+            Some((parent, parent_key)) => {
+                place = parent;
+                key = parent_key;
+            }
         }
-        let Some(child) = tree.children.get(place - 1) else {
-            return Ok(None);
-        };
-        let Some(above) = parent_key(alloc, tx, shelf, child.table, &key)? else {
-            return Ok(None);
-        };
-        key = above;
-        place = child.parent;
     }
-    if place > 0 || row_at(alloc, tx, shelf, tree.root.table, &key)?.is_none() {
+    if_root(alloc, tx, shelf, tree, place, key)
+}
+
+// The place of the parent table, and the key that the foreign key of this place's key names; none at the root, and where
+// there is none.
+fn above<S: Alter>(
+    alloc: Global,
+    tx: &mut Transaction<'_, S>,
+    shelf: &Shelf,
+    tree: &Tree,
+    place: usize,
+    key: &Key,
+) -> Result<Option<(usize, Key)>, StoreFault> {
+    if place == 0 {
         return Ok(None);
     }
-    Ok(Some(key))
+    let Some(child) = tree.children.get(place - 1) else {
+        return Ok(None);
+    };
+    match parent_key(alloc, tx, shelf, child.table, key) {
+        Ok(None) => Ok(None),
+        Ok(Some(above)) => Ok(Some((child.parent, above))),
+        Err(fault) => Err(fault),
+    }
+}
+
+// The key, where it is one of the root table's and its row is there.
+fn if_root<S: Alter>(
+    alloc: Global,
+    tx: &mut Transaction<'_, S>,
+    shelf: &Shelf,
+    tree: &Tree,
+    place: usize,
+    key: Key,
+) -> Result<Option<Key>, StoreFault> {
+    if place > 0 {
+        return Ok(None);
+    }
+    match row_at(alloc, tx, shelf, tree.root.table, &key) {
+        Ok(None) => Ok(None),
+        Ok(Some(_)) => Ok(Some(key)),
+        Err(fault) => Err(fault),
+    }
 }
 
 // The key that the foreign key of this key's row names.
@@ -94,9 +131,13 @@ fn parent_key<S: Alter>(
     let Some(def) = shelf.def(table) else {
         return Ok(None);
     };
-    match row_at(alloc, tx, shelf, table, key)? {
-        None => Ok(None),
-        Some(row) => Ok(Some(key_at(alloc, foreign_places(&def.foreign_key), &row)?)),
+    match row_at(alloc, tx, shelf, table, key) {
+        Ok(None) => Ok(None),
+        Ok(Some(row)) => {
+            let parent = key_at(alloc, foreign_places(&def.foreign_key), &row)?;
+            Ok(Some(parent))
+        }
+        Err(fault) => Err(fault),
     }
 }
 
@@ -108,8 +149,8 @@ pub(crate) fn rows_under<S: Alter>(
     tree: &Tree,
     root: &Key,
 ) -> Result<Seq<Rows>, StoreFault> {
-    let mut kept = Vec::new(alloc);
-    kept.push(root_rows(alloc, tx, shelf, &tree.root, root)?)?;
+    let first = root_rows(alloc, tx, shelf, &tree.root, root)?;
+    let mut kept = vec![in alloc; first]?;
     for child in tree.children.as_slice() {
         let rows = child_rows(alloc, tx, shelf, kept.as_slice(), child)?;
         kept.push(rows)?;
@@ -125,14 +166,17 @@ fn root_rows<S: Alter>(
     root: &Root,
     key: &Key,
 ) -> Result<Rows, StoreFault> {
+    match row_at(alloc, tx, shelf, root.table, key) {
+        Ok(None) => Ok(Rows::new(alloc)),
+        Ok(Some(row)) => selected_root(alloc, root, key, row),
+        Err(fault) => Err(fault),
+    }
+}
+
+fn selected_root(alloc: Global, root: &Root, key: &Key, row: Row) -> Result<Rows, StoreFault> {
     let mut rows = Rows::new(alloc);
-    match row_at(alloc, tx, shelf, root.table, key)? {
-        None => {}
-        Some(row) => {
-            if selects(&root.filter, &row) {
-                let _ = rows.insert(key.copied(alloc)?, row)?;
-            }
-        }
+    if selects(&root.filter, &row) {
+        let _ = rows.insert(key.copied(alloc)?, row)?;
     }
     Ok(rows)
 }
@@ -167,11 +211,26 @@ fn add_children<S: Alter>(
     let Some(def) = shelf.def(child.table) else {
         return Ok(());
     };
-    let Some(text) = &shelf.texts(child.table)?.children else {
-        return Ok(());
-    };
-    let values = lent_all(alloc, parent.values())?;
-    let mut rows = tx.query(text.as_str(), values.as_slice())?;
+    match &shelf.texts(child.table)?.children {
+        None => Ok(()),
+        Some(text) => {
+            let values = lent_all(alloc, parent.values())?;
+            add_each(alloc, tx, text.as_str(), values.as_slice(), def, child, out)
+        }
+    }
+}
+
+// The rows that the text gives, where the child's WHERE selects them.
+fn add_each<S: Alter>(
+    alloc: Global,
+    tx: &mut Transaction<'_, S>,
+    text: &str,
+    values: &[ValueRef<'_>],
+    def: &TableDef,
+    child: &Child,
+    out: &mut Rows,
+) -> Result<(), StoreFault> {
+    let mut rows = tx.query(text, values)?;
     for _ in 0..u64::MAX {
         rows.advance()?;
         match rows.get() {

@@ -24,6 +24,37 @@ pub(crate) fn first_row<S: Alter>(
     }
 }
 
+/// All rows of the answer.
+pub(crate) fn all_rows<S: Alter>(
+    tx: &mut Transaction<'_, S>,
+    sql: &str,
+    values: &[ValueRef<'_>],
+) -> Result<Vec<sqlite::Row>, StoreFault> {
+    match tx.query_all(sql, values) {
+        Ok(rows) => Ok(rows),
+        Err(error) => Err(StoreFault::from(error)),
+    }
+}
+
+// The first row of the answer, where there is one, to a text whose parameters are a key.
+fn row_by<S: Alter>(
+    alloc: Global,
+    tx: &mut Transaction<'_, S>,
+    sql: &str,
+    key: &Key,
+) -> Result<Option<sqlite::Row>, StoreFault> {
+    let values = lent_all(alloc, key.values())?;
+    first_row(tx, sql, values.as_slice())
+}
+
+// The number in the only column of a row.
+fn count_in(row: &sqlite::Row) -> Result<u64, StoreFault> {
+    match row.get::<u64>(0) {
+        Ok(count) => Ok(count),
+        Err(error) => Err(StoreFault::from(error)),
+    }
+}
+
 /// The row of a key in a table; none where there is none, or no such table.
 pub(crate) fn row_at<S: Alter>(
     alloc: Global,
@@ -38,11 +69,11 @@ pub(crate) fn row_at<S: Alter>(
     if !is_key_of(def, key) {
         return Ok(None);
     }
-    let texts = shelf.texts(table)?;
-    let values = lent_all(alloc, key.values())?;
-    match first_row(tx, texts.find.as_str(), values.as_slice())? {
-        None => Ok(None),
-        Some(stored) => Ok(Some(row_of(alloc, def.columns.as_slice(), &stored)?)),
+    let text = shelf.texts(table)?.find.as_str();
+    match row_by(alloc, tx, text, key) {
+        Ok(None) => Ok(None),
+        Ok(Some(stored)) => row_of(alloc, def.columns.as_slice(), &stored).map(Some),
+        Err(fault) => Err(fault),
     }
 }
 
@@ -60,18 +91,19 @@ pub(crate) fn child_key<S: Alter>(
     let Some(text) = &shelf.texts(child)?.child else {
         return Ok(None);
     };
-    let values = lent_all(alloc, key.values())?;
-    match first_row(tx, text.as_str(), values.as_slice())? {
-        None => Ok(None),
-        Some(stored) => Ok(Some(key_of(alloc, def, &stored)?)),
+    match row_by(alloc, tx, text.as_str(), key) {
+        Ok(None) => Ok(None),
+        Ok(Some(stored)) => key_of(alloc, def, &stored).map(Some),
+        Err(fault) => Err(fault),
     }
 }
 
 /// How many entries the history has.
 pub(crate) fn entries<S: Alter>(tx: &mut Transaction<'_, S>) -> Result<u64, StoreFault> {
-    match first_row(tx, "SELECT entries FROM \"ttcache-history\"", &[])? {
-        None => Err(StoreFault::Failed),
-        Some(row) => Ok(row.get::<u64>(0)?),
+    match first_row(tx, "SELECT entries FROM \"ttcache-history\"", &[]) {
+        Ok(None) => Err(StoreFault::Failed),
+        Ok(Some(row)) => count_in(&row),
+        Err(fault) => Err(fault),
     }
 }
 
@@ -93,9 +125,10 @@ pub(crate) fn position_of<S: Alter>(
         return Ok(None);
     };
     let text = "SELECT position FROM \"ttcache-tickets\" WHERE ticket = ?";
-    match first_row(tx, text, &[ValueRef::Int(number)])? {
-        None => Ok(None),
-        Some(row) => Ok(Some(row.get::<u64>(0)?)),
+    match first_row(tx, text, &[ValueRef::Int(number)]) {
+        Ok(None) => Ok(None),
+        Ok(Some(row)) => count_in(&row).map(Some),
+        Err(fault) => Err(fault),
     }
 }
 

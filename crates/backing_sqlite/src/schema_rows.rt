@@ -1,7 +1,8 @@
 //! Definitions of tables as rows.
 
+use crate::draft::text_of;
 use crate::fault::StoreFault;
-use crate::texts::text_of;
+use crate::reading::all_rows;
 use crate::writing::give;
 use row_types::{Column, Ty};
 use sqlite::types::{ToSql, ValueRef};
@@ -59,7 +60,7 @@ fn read_columns<S: Alter>(
 ) -> Result<Seq<Column>, StoreFault> {
     let text =
         "SELECT name, type, size, scale, not_null FROM \"ttcache-columns\" WHERE table_place = ? ORDER BY place";
-    let stored = tx.query_all(text, &[ValueRef::Int(place)])?;
+    let stored = all_rows(tx, text, &[ValueRef::Int(place)])?;
     let mut columns = Vec::with_capacity(alloc, stored.len())?;
     for row in &stored {
         columns.push(column_of(alloc, row)?)?;
@@ -77,15 +78,36 @@ fn column_of(alloc: Global, stored: &sqlite::Row) -> Result<Column, StoreFault> 
 fn type_of(stored: &sqlite::Row) -> Result<Ty, StoreFault> {
     let size = number_at(stored, 2)?;
     let scale = number_at(stored, 3)?;
-    match stored.get_ref(1)? {
-        ValueRef::Text(b"TT_INTEGER") => Ok(Ty::TtInteger),
-        ValueRef::Text(b"TT_BIGINT") => Ok(Ty::TtBigint),
-        ValueRef::Text(b"NUMBER") => match (u8::try_from(size), u8::try_from(scale)) {
-            (Ok(size), Ok(scale)) => Ok(Ty::Number(size, scale)),
-            _ => Err(StoreFault::Failed),
+    match type_named(word_at(stored, 1)?, size, scale) {
+        None => Err(StoreFault::Failed),
+        Some(ty) => Ok(ty),
+    }
+}
+
+// A comparison of texts is one call, and one of bytes has each byte written out.
+fn type_named(word: &str, size: u16, scale: u16) -> Option<Ty> {
+    match word {
+        "TT_INTEGER" => Some(Ty::TtInteger),
+        "TT_BIGINT" => Some(Ty::TtBigint),
+        "NUMBER" => number_type(size, scale),
+        "VARCHAR2" => Some(Ty::Varchar2(size)),
+        "TIMESTAMP" => Some(Ty::Timestamp),
+        _ => None,
+    }
+}
+
+fn number_type(size: u16, scale: u16) -> Option<Ty> {
+    let size = u8::try_from(size).ok()?;
+    let scale = u8::try_from(scale).ok()?;
+    Some(Ty::Number(size, scale))
+}
+
+fn word_at(stored: &sqlite::Row, at: usize) -> Result<&str, StoreFault> {
+    match stored.get_ref(at)? {
+        ValueRef::Text(bytes) => match str::from_utf8(bytes) {
+            Ok(word) => Ok(word),
+            Err(_) => Err(StoreFault::Failed),
         },
-        ValueRef::Text(b"VARCHAR2") => Ok(Ty::Varchar2(size)),
-        ValueRef::Text(b"TIMESTAMP") => Ok(Ty::Timestamp),
         _ => Err(StoreFault::Failed),
     }
 }
@@ -114,7 +136,7 @@ fn read_places<S: Alter>(
     text: &str,
     place: i64,
 ) -> Result<Seq<usize>, StoreFault> {
-    let stored = tx.query_all(text, &[ValueRef::Int(place)])?;
+    let stored = all_rows(tx, text, &[ValueRef::Int(place)])?;
     let mut places = Vec::with_capacity(alloc, stored.len())?;
     for row in &stored {
         places.push(row.get::<u32>(0)? as usize)?;
@@ -151,8 +173,7 @@ fn write_table<S: Alter>(
         parent,
         cascades.to_sql(),
     ];
-    let _ = give(tx, text, &values)?;
-    Ok(())
+    give(tx, text, &values)
 }
 
 fn write_column<S: Alter>(
@@ -176,8 +197,7 @@ fn write_column<S: Alter>(
         place_in(def.primary_key.as_slice(), at)?,
         place_in(foreign_places(def), at)?,
     ];
-    let _ = give(tx, text, &values)?;
-    Ok(())
+    give(tx, text, &values)
 }
 
 fn words_of(ty: Ty) -> (&'static str, u16, u8) {

@@ -3,10 +3,10 @@
 //! A table has the name that it has at the backing database, between quotes, and so do its columns. SQLite keeps names
 //! that begin with `sqlite_` to itself, so those have `_` in front, which no other name has.
 
+use crate::draft::Draft;
 use crate::fault::StoreFault;
 use row_types::{Column, Ty};
 use std::alloc::Global;
-use std::str;
 use table_defs::{ForeignKey, TableDef};
 use tier_base::Name;
 
@@ -57,165 +57,153 @@ impl Drop for TableTexts {
 impl TableTexts {
     /// The texts of the table.
     pub(crate) fn new(alloc: Global, def: &TableDef) -> Result<TableTexts, StoreFault> {
-        let find = find_text(alloc, def)?;
-        let all = all_text(alloc, def)?;
-        let insert = insert_text(alloc, def)?;
-        let update = update_text(alloc, def)?;
-        let delete = delete_text(alloc, def)?;
-        let child = child_text(alloc, def)?;
-        let children = children_text(alloc, def)?;
-        let enter = enter_text(alloc, def)?;
-        let logged = logged_text(alloc, def)?;
-        let forget = forget_text(alloc, def)?;
-        Ok(TableTexts {
-            find,
-            all,
-            insert,
-            update,
-            delete,
-            child,
-            children,
-            enter,
-            logged,
-            forget,
-        })
+        let mut out = Draft::new(alloc);
+        let texts = TableTexts {
+            find: find_text(&mut out, def),
+            all: all_text(&mut out, def),
+            insert: insert_text(&mut out, def),
+            update: update_text(&mut out, def),
+            delete: delete_text(&mut out, def),
+            child: child_text(&mut out, def),
+            children: children_text(&mut out, def),
+            enter: enter_text(&mut out, def),
+            logged: logged_text(&mut out, def),
+            forget: forget_text(&mut out, def),
+        };
+        match out.fault() {
+            None => Ok(texts),
+            Some(fault) => Err(fault),
+        }
     }
 }
 
-fn find_text(alloc: Global, def: &TableDef) -> Result<String, StoreFault> {
-    let mut out = String::from_str(alloc, "SELECT ")?;
-    put_all_columns(&mut out, def)?;
-    out.push_str(" FROM ")?;
-    put_table(&mut out, &def.name)?;
-    put_tests(&mut out, def, def.primary_key.as_slice())?;
-    Ok(out)
+fn find_text(out: &mut Draft, def: &TableDef) -> String {
+    out.put("SELECT ");
+    put_all_columns(out, def);
+    out.put(" FROM ");
+    put_table(out, &def.name);
+    put_tests(out, def, def.primary_key.as_slice());
+    out.take()
 }
 
-fn all_text(alloc: Global, def: &TableDef) -> Result<String, StoreFault> {
-    let mut out = String::from_str(alloc, "SELECT ")?;
-    put_all_columns(&mut out, def)?;
-    out.push_str(" FROM ")?;
-    put_table(&mut out, &def.name)?;
-    out.push_str(" ORDER BY ")?;
-    put_columns(&mut out, def, def.primary_key.as_slice())?;
-    Ok(out)
+fn all_text(out: &mut Draft, def: &TableDef) -> String {
+    out.put("SELECT ");
+    put_all_columns(out, def);
+    out.put(" FROM ");
+    put_table(out, &def.name);
+    out.put(" ORDER BY ");
+    put_columns(out, def, def.primary_key.as_slice());
+    out.take()
 }
 
-fn insert_text(alloc: Global, def: &TableDef) -> Result<String, StoreFault> {
-    let mut out = String::from_str(alloc, "INSERT INTO ")?;
-    put_table(&mut out, &def.name)?;
-    out.push_str(" (")?;
-    put_all_columns(&mut out, def)?;
-    out.push_str(") VALUES (")?;
+fn insert_text(out: &mut Draft, def: &TableDef) -> String {
+    out.put("INSERT INTO ");
+    put_table(out, &def.name);
+    out.put(" (");
+    put_all_columns(out, def);
+    out.put(") VALUES (");
     for place in 0..def.columns.len() {
-        out.push_str(if place == 0 { "?" } else { ", ?" })?;
+        out.put(if place == 0 { "?" } else { ", ?" });
     }
-    out.push_str(")")?;
-    Ok(out)
+    out.put(")");
+    out.take()
 }
 
-fn update_text(alloc: Global, def: &TableDef) -> Result<Option<String>, StoreFault> {
-    let mut out = String::from_str(alloc, "UPDATE ")?;
-    put_table(&mut out, &def.name)?;
+fn update_text(out: &mut Draft, def: &TableDef) -> Option<String> {
+    if !has_others(def) {
+        return None;
+    }
+    out.put("UPDATE ");
+    put_table(out, &def.name);
     let mut between = " SET ";
     for (place, column) in def.columns.as_slice().iter().enumerate() {
         if !is_of_key(def, place) {
-            out.push_str(between)?;
-            put_quoted(&mut out, &column.name)?;
-            out.push_str(" = ?")?;
+            out.put(between);
+            put_quoted(out, &column.name);
+            out.put(" = ?");
             between = ", ";
         }
     }
-    if between == " SET " {
-        return Ok(None);
-    }
-    put_tests(&mut out, def, def.primary_key.as_slice())?;
-    Ok(Some(out))
+    put_tests(out, def, def.primary_key.as_slice());
+    Some(out.take())
 }
 
-fn delete_text(alloc: Global, def: &TableDef) -> Result<String, StoreFault> {
-    let mut out = String::from_str(alloc, "DELETE FROM ")?;
-    put_table(&mut out, &def.name)?;
-    put_tests(&mut out, def, def.primary_key.as_slice())?;
-    Ok(out)
+fn delete_text(out: &mut Draft, def: &TableDef) -> String {
+    out.put("DELETE FROM ");
+    put_table(out, &def.name);
+    put_tests(out, def, def.primary_key.as_slice());
+    out.take()
 }
 
-fn child_text(alloc: Global, def: &TableDef) -> Result<Option<String>, StoreFault> {
-    match &def.foreign_key {
-        None => Ok(None),
-        Some(foreign) => {
-            let mut out = String::from_str(alloc, "SELECT ")?;
-            put_columns(&mut out, def, def.primary_key.as_slice())?;
-            out.push_str(" FROM ")?;
-            put_table(&mut out, &def.name)?;
-            put_tests(&mut out, def, foreign.columns.as_slice())?;
-            out.push_str(" ORDER BY ")?;
-            put_columns(&mut out, def, def.primary_key.as_slice())?;
-            out.push_str(" LIMIT 1")?;
-            Ok(Some(out))
-        }
-    }
+fn child_text(out: &mut Draft, def: &TableDef) -> Option<String> {
+    let foreign = def.foreign_key.as_ref()?;
+    out.put("SELECT ");
+    put_columns(out, def, def.primary_key.as_slice());
+    out.put(" FROM ");
+    put_table(out, &def.name);
+    put_tests(out, def, foreign.columns.as_slice());
+    out.put(" ORDER BY ");
+    put_columns(out, def, def.primary_key.as_slice());
+    out.put(" LIMIT 1");
+    Some(out.take())
 }
 
-fn children_text(alloc: Global, def: &TableDef) -> Result<Option<String>, StoreFault> {
-    match &def.foreign_key {
-        None => Ok(None),
-        Some(foreign) => {
-            let mut out = String::from_str(alloc, "SELECT ")?;
-            put_all_columns(&mut out, def)?;
-            out.push_str(" FROM ")?;
-            put_table(&mut out, &def.name)?;
-            put_tests(&mut out, def, foreign.columns.as_slice())?;
-            Ok(Some(out))
-        }
-    }
+fn children_text(out: &mut Draft, def: &TableDef) -> Option<String> {
+    let foreign = def.foreign_key.as_ref()?;
+    out.put("SELECT ");
+    put_all_columns(out, def);
+    out.put(" FROM ");
+    put_table(out, &def.name);
+    put_tests(out, def, foreign.columns.as_slice());
+    Some(out.take())
 }
 
-fn enter_text(alloc: Global, def: &TableDef) -> Result<String, StoreFault> {
-    let mut out = String::from_str(alloc, "INSERT INTO ")?;
-    put_log(&mut out, &def.name)?;
-    out.push_str(" (\"log-position\", \"log-number\", \"log-was\", ")?;
-    put_all_columns(&mut out, def)?;
-    out.push_str(") VALUES (?, ?, ?")?;
+fn enter_text(out: &mut Draft, def: &TableDef) -> String {
+    out.put("INSERT INTO ");
+    put_log(out, &def.name);
+    out.put(" (\"log-position\", \"log-number\", \"log-was\", ");
+    put_all_columns(out, def);
+    out.put(") VALUES (?, ?, ?");
     for _ in 0..def.columns.len() {
-        out.push_str(", ?")?;
+        out.put(", ?");
     }
-    out.push_str(")")?;
-    Ok(out)
+    out.put(")");
+    out.take()
 }
 
-fn logged_text(alloc: Global, def: &TableDef) -> Result<String, StoreFault> {
-    let mut out = String::from_str(alloc, "SELECT ")?;
-    put_columns(&mut out, def, def.primary_key.as_slice())?;
-    out.push_str(", \"log-was\", ")?;
-    put_all_columns(&mut out, def)?;
-    out.push_str(" FROM ")?;
-    put_log(&mut out, &def.name)?;
-    out.push_str(" WHERE \"log-position\" > ? ORDER BY \"log-position\", \"log-number\"")?;
-    Ok(out)
+fn logged_text(out: &mut Draft, def: &TableDef) -> String {
+    out.put("SELECT ");
+    put_columns(out, def, def.primary_key.as_slice());
+    out.put(", \"log-was\", ");
+    put_all_columns(out, def);
+    out.put(" FROM ");
+    put_log(out, &def.name);
+    out.put(" WHERE \"log-position\" > ? ORDER BY \"log-position\", \"log-number\"");
+    out.take()
 }
 
-fn forget_text(alloc: Global, def: &TableDef) -> Result<String, StoreFault> {
-    let mut out = String::from_str(alloc, "DELETE FROM ")?;
-    put_log(&mut out, &def.name)?;
-    out.push_str(" WHERE \"log-position\" <= ?")?;
-    Ok(out)
+fn forget_text(out: &mut Draft, def: &TableDef) -> String {
+    out.put("DELETE FROM ");
+    put_log(out, &def.name);
+    out.put(" WHERE \"log-position\" <= ?");
+    out.take()
 }
 
 /// The text that makes the log of the table, where it isn't there.
 pub(crate) fn log_text(alloc: Global, def: &TableDef) -> Result<String, StoreFault> {
-    let mut out = String::from_str(alloc, "CREATE TABLE IF NOT EXISTS ")?;
-    put_log(&mut out, &def.name)?;
-    out.push_str(
+    let mut out = Draft::new(alloc);
+    out.put("CREATE TABLE IF NOT EXISTS ");
+    put_log(&mut out, &def.name);
+    out.put(
         " (\"log-position\" INTEGER NOT NULL, \"log-number\" INTEGER NOT NULL, \"log-was\" INTEGER NOT NULL, ",
-    )?;
+    );
     for column in def.columns.as_slice() {
-        put_quoted(&mut out, &column.name)?;
-        out.push_str(type_text(column))?;
-        out.push_str(", ")?;
+        put_quoted(&mut out, &column.name);
+        out.put(type_text(column));
+        out.put(", ");
     }
-    out.push_str("PRIMARY KEY (\"log-position\", \"log-number\")) STRICT")?;
-    Ok(out)
+    out.put("PRIMARY KEY (\"log-position\", \"log-number\")) STRICT");
+    out.end()
 }
 
 fn type_text(column: &Column) -> &'static str {
@@ -226,11 +214,10 @@ fn type_text(column: &Column) -> &'static str {
 }
 
 // The name of the log of a table.
-fn put_log(out: &mut String, name: &Name) -> Result<(), StoreFault> {
-    out.push_str("\"log of ")?;
-    out.push_str(text_of(name)?)?;
-    out.push_str("\"")?;
-    Ok(())
+fn put_log(out: &mut Draft, name: &Name) {
+    out.put("\"log of ");
+    out.put_name(name);
+    out.put("\"");
 }
 
 /// The text that makes the table. `parent` is the definition of the table that its foreign key refers to.
@@ -239,80 +226,80 @@ pub(crate) fn create_text(
     def: &TableDef,
     parent: Option<&TableDef>,
 ) -> Result<String, StoreFault> {
-    let mut out = String::from_str(alloc, "CREATE TABLE ")?;
-    put_table(&mut out, &def.name)?;
-    out.push_str(" (")?;
+    let mut out = Draft::new(alloc);
+    out.put("CREATE TABLE ");
+    put_table(&mut out, &def.name);
+    out.put(" (");
     for column in def.columns.as_slice() {
-        put_declaration(&mut out, column)?;
+        put_declaration(&mut out, column);
     }
-    out.push_str("PRIMARY KEY (")?;
-    put_columns(&mut out, def, def.primary_key.as_slice())?;
-    out.push_str(")")?;
-    put_reference(&mut out, def, parent)?;
-    out.push_str(") STRICT")?;
-    Ok(out)
+    out.put("PRIMARY KEY (");
+    put_columns(&mut out, def, def.primary_key.as_slice());
+    out.put(")");
+    put_reference(&mut out, def, parent);
+    out.put(") STRICT");
+    out.end()
 }
 
-fn put_declaration(out: &mut String, column: &Column) -> Result<(), StoreFault> {
-    put_quoted(out, &column.name)?;
-    out.push_str(type_text(column))?;
-    out.push_str(if column.not_null { " NOT NULL, " } else { ", " })?;
-    Ok(())
+fn put_declaration(out: &mut Draft, column: &Column) {
+    put_quoted(out, &column.name);
+    out.put(type_text(column));
+    out.put(if column.not_null { " NOT NULL, " } else { ", " });
 }
 
-fn put_reference(
-    out: &mut String,
-    def: &TableDef,
-    parent: Option<&TableDef>,
-) -> Result<(), StoreFault> {
+fn put_reference(out: &mut Draft, def: &TableDef, parent: Option<&TableDef>) {
     match (&def.foreign_key, parent) {
         (Some(foreign), Some(parent)) => put_foreign(out, def, foreign, parent),
-        (Some(_), None) => Err(StoreFault::Failed),
-        (None, _) => Ok(()),
+        (Some(_), None) => out.fail(StoreFault::Failed),
+        (None, _) => {}
     }
 }
 
-fn put_foreign(
-    out: &mut String,
-    def: &TableDef,
-    foreign: &ForeignKey,
-    parent: &TableDef,
-) -> Result<(), StoreFault> {
-    out.push_str(", FOREIGN KEY (")?;
-    put_columns(out, def, foreign.columns.as_slice())?;
-    out.push_str(") REFERENCES ")?;
-    put_table(out, &parent.name)?;
-    out.push_str(" (")?;
-    put_columns(out, parent, parent.primary_key.as_slice())?;
-    out.push_str(if foreign.cascade {
+fn put_foreign(out: &mut Draft, def: &TableDef, foreign: &ForeignKey, parent: &TableDef) {
+    out.put(", FOREIGN KEY (");
+    put_columns(out, def, foreign.columns.as_slice());
+    out.put(") REFERENCES ");
+    put_table(out, &parent.name);
+    out.put(" (");
+    put_columns(out, parent, parent.primary_key.as_slice());
+    out.put(if foreign.cascade {
         ") ON DELETE CASCADE"
     } else {
         ")"
-    })?;
-    Ok(())
+    });
 }
 
-/// The text that makes the index by which the children of a row are found in key order, where there is a foreign key.
-pub(crate) fn index_text(alloc: Global, def: &TableDef) -> Result<Option<String>, StoreFault> {
-    match &def.foreign_key {
-        None => Ok(None),
-        Some(foreign) => {
-            let mut out = String::from_str(alloc, "CREATE INDEX \"parents of ")?;
-            out.push_str(text_of(&def.name)?)?;
-            out.push_str("\" ON ")?;
-            put_table(&mut out, &def.name)?;
-            out.push_str(" (")?;
-            put_columns(&mut out, def, foreign.columns.as_slice())?;
-            for place in def.primary_key.as_slice() {
-                if !foreign.columns.as_slice().contains(place) {
-                    out.push_str(", ")?;
-                    put_column(&mut out, def, *place)?;
-                }
-            }
-            out.push_str(")")?;
-            Ok(Some(out))
+/// The text that makes the index by which the children of a row are found in key order.
+pub(crate) fn index_text(
+    alloc: Global,
+    def: &TableDef,
+    foreign: &ForeignKey,
+) -> Result<String, StoreFault> {
+    let mut out = Draft::new(alloc);
+    out.put("CREATE INDEX \"parents of ");
+    out.put_name(&def.name);
+    out.put("\" ON ");
+    put_table(&mut out, &def.name);
+    out.put(" (");
+    put_columns(&mut out, def, foreign.columns.as_slice());
+    for place in def.primary_key.as_slice() {
+        if !foreign.columns.as_slice().contains(place) {
+            out.put(", ");
+            put_column(&mut out, def, *place);
         }
     }
+    out.put(")");
+    out.end()
+}
+
+// Whether there are columns that aren't of the key.
+fn has_others(def: &TableDef) -> bool {
+    for place in 0..def.columns.len() {
+        if !is_of_key(def, place) {
+            return true;
+        }
+    }
+    false
 }
 
 /// Whether the column at the place is one of the primary key's.
@@ -320,65 +307,53 @@ pub(crate) fn is_of_key(def: &TableDef, place: usize) -> bool {
     def.primary_key.as_slice().contains(&place)
 }
 
-fn put_tests(out: &mut String, def: &TableDef, places: &[usize]) -> Result<(), StoreFault> {
+fn put_tests(out: &mut Draft, def: &TableDef, places: &[usize]) {
     let mut between = " WHERE ";
     for place in places {
-        out.push_str(between)?;
-        put_column(out, def, *place)?;
-        out.push_str(" = ?")?;
+        out.put(between);
+        put_column(out, def, *place);
+        out.put(" = ?");
         between = " AND ";
     }
-    Ok(())
 }
 
-fn put_all_columns(out: &mut String, def: &TableDef) -> Result<(), StoreFault> {
+fn put_all_columns(out: &mut Draft, def: &TableDef) {
     let mut between = "";
     for column in def.columns.as_slice() {
-        out.push_str(between)?;
-        put_quoted(out, &column.name)?;
+        out.put(between);
+        put_quoted(out, &column.name);
         between = ", ";
     }
-    Ok(())
 }
 
-fn put_columns(out: &mut String, def: &TableDef, places: &[usize]) -> Result<(), StoreFault> {
+fn put_columns(out: &mut Draft, def: &TableDef, places: &[usize]) {
     let mut between = "";
     for place in places {
-        out.push_str(between)?;
-        put_column(out, def, *place)?;
+        out.put(between);
+        put_column(out, def, *place);
         between = ", ";
     }
-    Ok(())
 }
 
-fn put_column(out: &mut String, def: &TableDef, place: usize) -> Result<(), StoreFault> {
+fn put_column(out: &mut Draft, def: &TableDef, place: usize) {
     match def.columns.get(place) {
-        None => Err(StoreFault::Failed),
+        None => out.fail(StoreFault::Failed),
         Some(column) => put_quoted(out, &column.name),
     }
 }
 
-fn put_table(out: &mut String, name: &Name) -> Result<(), StoreFault> {
+fn put_table(out: &mut Draft, name: &Name) {
     if name.as_bytes().starts_with(KEPT.as_bytes()) {
-        out.push_str("\"_")?;
-        out.push_str(text_of(name)?)?;
-        out.push_str("\"")?;
-        return Ok(());
+        out.put("\"_");
+        out.put_name(name);
+        out.put("\"");
+    } else {
+        put_quoted(out, name);
     }
-    put_quoted(out, name)
 }
 
-fn put_quoted(out: &mut String, name: &Name) -> Result<(), StoreFault> {
-    out.push_str("\"")?;
-    out.push_str(text_of(name)?)?;
-    out.push_str("\"")?;
-    Ok(())
-}
-
-/// The name as text.
-pub(crate) fn text_of(name: &Name) -> Result<&str, StoreFault> {
-    match str::from_utf8(name.as_bytes()) {
-        Ok(text) => Ok(text),
-        Err(_) => Err(StoreFault::Failed),
-    }
+fn put_quoted(out: &mut Draft, name: &Name) {
+    out.put("\"");
+    out.put_name(name);
+    out.put("\"");
 }

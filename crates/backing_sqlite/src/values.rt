@@ -85,15 +85,14 @@ pub(crate) fn lent_entry<'a>(
     let position = whole(at.position)?;
     let number = whole(at.number as u64)?;
     let mut out = Vec::with_capacity(alloc, row.values().len())?;
-    out.push(ValueRef::Int(position))?;
-    out.push(ValueRef::Int(number))?;
-    out.push(ValueRef::Int(i64::from(was)))?;
+    out.extend_from_slice(&[
+        ValueRef::Int(position),
+        ValueRef::Int(number),
+        ValueRef::Int(i64::from(was)),
+    ])?;
     for (place, value) in row.values().iter().enumerate() {
-        if was || def.primary_key.as_slice().contains(&place) {
-            out.push(lent(value))?;
-        } else {
-            out.push(ValueRef::Null)?;
-        }
+        let is_told = was || def.primary_key.as_slice().contains(&place);
+        out.push(if is_told { lent(value) } else { ValueRef::Null })?;
     }
     Ok(out)
 }
@@ -116,8 +115,8 @@ pub(crate) fn row_behind(
 ) -> Result<Row, StoreFault> {
     let mut values = Vec::with_capacity(alloc, columns.len())?;
     for (place, column) in columns.iter().enumerate() {
-        let stored = stored.get_ref(others.saturating_add(place))?;
-        values.push(value_of(alloc, column, stored)?)?;
+        let value = value_at(alloc, column, stored, others.saturating_add(place))?;
+        values.push(value)?;
     }
     Ok(Row::from_vec(values))
 }
@@ -131,12 +130,36 @@ pub(crate) fn key_of(
     let places = def.primary_key.as_slice();
     let mut values = Vec::with_capacity(alloc, places.len())?;
     for (at, place) in places.iter().enumerate() {
-        match def.columns.get(*place) {
-            None => return Err(StoreFault::Failed),
-            Some(column) => values.push(value_of(alloc, column, stored.get_ref(at)?)?)?,
-        }
+        let value = value_in(alloc, def, *place, stored, at)?;
+        values.push(value)?;
     }
     Ok(Key::from_vec(values))
+}
+
+// The value of the column at a place of the table.
+fn value_in(
+    alloc: Global,
+    def: &TableDef,
+    place: usize,
+    stored: &sqlite::Row,
+    at: usize,
+) -> Result<Value, StoreFault> {
+    match def.columns.get(place) {
+        None => Err(StoreFault::Failed),
+        Some(column) => value_at(alloc, column, stored, at),
+    }
+}
+
+fn value_at(
+    alloc: Global,
+    column: &Column,
+    stored: &sqlite::Row,
+    at: usize,
+) -> Result<Value, StoreFault> {
+    match stored.get_ref(at) {
+        Ok(stored) => value_of(alloc, column, stored),
+        Err(error) => Err(StoreFault::from(error)),
+    }
 }
 
 fn value_of(alloc: Global, column: &Column, stored: ValueRef<'_>) -> Result<Value, StoreFault> {

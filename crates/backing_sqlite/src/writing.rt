@@ -12,14 +12,14 @@ use std::alloc::Global;
 use table_state::{Op, key_of_row};
 use tier_base::{TableId, Ticket};
 
-/// Does a statement, and tells how many rows it changed.
+/// Does a statement.
 pub(crate) fn give<S: Alter>(
     tx: &mut Transaction<'_, S>,
     sql: &str,
     values: &[ValueRef<'_>],
-) -> Result<usize, StoreFault> {
+) -> Result<(), StoreFault> {
     match tx.execute(sql, values) {
-        Ok(count) => Ok(count),
+        Ok(_) => Ok(()),
         Err(error) => Err(StoreFault::from(error)),
     }
 }
@@ -30,9 +30,10 @@ fn give_one<S: Alter>(
     sql: &str,
     values: &[ValueRef<'_>],
 ) -> Result<(), StoreFault> {
-    match give(tx, sql, values)? {
-        1 => Ok(()),
-        _ => Err(StoreFault::Failed),
+    match tx.execute(sql, values) {
+        Ok(1) => Ok(()),
+        Ok(_) => Err(StoreFault::Failed),
+        Err(error) => Err(StoreFault::from(error)),
     }
 }
 
@@ -84,8 +85,7 @@ pub(crate) fn forget<S: Alter>(
 ) -> Result<(), StoreFault> {
     let position = whole(position)?;
     let text = shelf.texts(table)?.forget.as_str();
-    let _ = give(tx, text, &[ValueRef::Int(position)])?;
-    Ok(())
+    give(tx, text, &[ValueRef::Int(position)])
 }
 
 // An entry of the log has the row before, where there was one.
@@ -103,12 +103,9 @@ fn enter<S: Alter>(
         Op::Insert(_, _) => false,
         _ => true,
     };
+    let text = shelf.texts(op.table())?.enter.as_str();
     let values = lent_entry(alloc, def, at, was, named_row(op))?;
-    give_one(
-        tx,
-        shelf.texts(op.table())?.enter.as_str(),
-        values.as_slice(),
-    )
+    give_one(tx, text, values.as_slice())
 }
 
 fn write<S: Alter>(
@@ -144,8 +141,9 @@ fn insert<S: Alter>(
     table: TableId,
     row: &Row,
 ) -> Result<(), StoreFault> {
+    let text = shelf.texts(table)?.insert.as_str();
     let values = lent_all(alloc, row.values())?;
-    give_one(tx, shelf.texts(table)?.insert.as_str(), values.as_slice())
+    give_one(tx, text, values.as_slice())
 }
 
 fn update<S: Alter>(
@@ -175,8 +173,9 @@ fn delete<S: Alter>(
     table: TableId,
     key: &Key,
 ) -> Result<(), StoreFault> {
+    let text = shelf.texts(table)?.delete.as_str();
     let values = lent_all(alloc, key.values())?;
-    give_one(tx, shelf.texts(table)?.delete.as_str(), values.as_slice())
+    give_one(tx, text, values.as_slice())
 }
 
 /// How many entries the history has with one more.

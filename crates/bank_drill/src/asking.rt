@@ -4,6 +4,7 @@ use crate::error::DrillError;
 use evaluator::Change;
 use resolution::resolve_writes;
 use row_types::{Key, Row, Value, parse_literal};
+use sql_query::Write;
 use sql_subset::line::parse_line;
 use sql_subset::request::{ConsoleRequest, Line};
 use std::alloc::{AllocError, Global};
@@ -20,6 +21,14 @@ pub fn asked(alloc: Global, text: &str) -> Result<Option<ConsoleRequest>, AllocE
     }
 }
 
+/// The writes that the text spells.
+pub fn writes_of(alloc: Global, text: &str, line: usize) -> Result<Seq<Write>, DrillError> {
+    match asked(alloc, text)? {
+        Some(ConsoleRequest::Writes(writes)) => Ok(writes),
+        _ => Err(DrillError::Line(line)),
+    }
+}
+
 /// The writes that the text spells, over these tables.
 pub fn changes_of(
     alloc: Global,
@@ -27,12 +36,8 @@ pub fn changes_of(
     text: &str,
     line: usize,
 ) -> Result<Seq<Change>, DrillError> {
-    match asked(alloc, text)? {
-        Some(ConsoleRequest::Writes(writes)) => {
-            resolve_writes(alloc, schema, writes.as_slice()).map_err(|_| DrillError::Line(line))
-        }
-        _ => Err(DrillError::Line(line)),
-    }
+    let writes = writes_of(alloc, text, line)?;
+    resolve_writes(alloc, schema, writes.as_slice()).map_err(|_| DrillError::Line(line))
 }
 
 /// The table of this name.

@@ -1,12 +1,14 @@
 //! Calls of the site, as a script asks for them.
 
 use crate::answers::{
-    tell_applied, tell_bank_error, tell_changes, tell_done, tell_found, tell_lines, tell_reached,
-    tell_schema, tell_snapshot,
+    tell_applied, tell_bank_error, tell_changes, tell_done, tell_found, tell_reached, tell_schema,
+    tell_snapshot,
 };
 use crate::asking::{asked, changes_of, key_of, ops_of, table_of, tables_of, tickets_of};
 use crate::error::DrillError;
+use crate::telling::Output;
 use crate::trees::{tree_of, trees_of, wants_of};
+use evaluator::Change;
 use outside::Site;
 use row_types::TableDeclaration;
 use sql_subset::request::ConsoleRequest;
@@ -21,7 +23,7 @@ pub fn console<T: Site>(
     site: &mut T,
     text: &str,
     line: usize,
-    out: &mut Vec<u8>,
+    out: &mut Output,
 ) -> Result<(), DrillError> {
     let known = site.schema()?;
     match asked(alloc, text)? {
@@ -37,15 +39,16 @@ fn define<T: Site>(
     known: &BackingSchema,
     table: &TableDeclaration,
     line: usize,
-    out: &mut Vec<u8>,
+    out: &mut Output,
 ) -> Result<(), DrillError> {
     let Ok(def) = TableDef::check(alloc, table, known) else {
         return Err(DrillError::Line(line));
     };
     match site.define(&def) {
-        Ok(()) => tell_lines(out, b"defined"),
+        Ok(()) => out.put_line("defined"),
         Err(error) => tell_bank_error(out, error),
     }
+    Ok(())
 }
 
 fn foreign<T: Site>(
@@ -54,13 +57,14 @@ fn foreign<T: Site>(
     known: &BackingSchema,
     text: &str,
     line: usize,
-    out: &mut Vec<u8>,
+    out: &mut Output,
 ) -> Result<(), DrillError> {
     let changes = changes_of(alloc, known, text, line)?;
     match site.foreign(changes.as_slice()) {
         Ok(done) => tell_done(out, &done),
         Err(error) => tell_bank_error(out, error),
     }
+    Ok(())
 }
 
 /// The transaction of this ticket that does these operations.
@@ -87,7 +91,7 @@ pub fn apply<T: Site>(
     ticket: u64,
     after: &str,
     line: usize,
-    out: &mut Vec<u8>,
+    out: &mut Output,
 ) -> Result<(), DrillError> {
     let after = tickets_of(alloc, after, line)?;
     match sealed.iter().find(|one| one.ticket.0 == ticket) {
@@ -95,9 +99,13 @@ pub fn apply<T: Site>(
         Some(one) => match site.apply_once(one, after.as_slice()) {
             Ok(applied) => {
                 let known = site.schema()?;
-                tell_applied(out, &known, &applied)
+                tell_applied(out, &known, &applied);
+                Ok(())
             }
-            Err(error) => tell_bank_error(out, error),
+            Err(error) => {
+                tell_bank_error(out, error);
+                Ok(())
+            }
         },
     }
 }
@@ -109,16 +117,23 @@ pub fn passed<T: Site>(
     ticket: u64,
     write: &str,
     line: usize,
-    out: &mut Vec<u8>,
+    out: &mut Output,
 ) -> Result<(), DrillError> {
     let known = site.schema()?;
     let changes = changes_of(alloc, &known, write, line)?;
     match changes.as_slice() {
-        [change] => match site.passed(Ticket(ticket), change) {
-            Ok(done) => tell_done(out, &done),
-            Err(error) => tell_bank_error(out, error),
-        },
+        [change] => {
+            pass(site, ticket, change, out);
+            Ok(())
+        }
         _ => Err(DrillError::Line(line)),
+    }
+}
+
+fn pass<T: Site>(site: &mut T, ticket: u64, change: &Change, out: &mut Output) {
+    match site.passed(Ticket(ticket), change) {
+        Ok(done) => tell_done(out, &done),
+        Err(error) => tell_bank_error(out, error),
     }
 }
 
@@ -129,7 +144,7 @@ pub fn find<T: Site>(
     table: &str,
     key: &str,
     line: usize,
-    out: &mut Vec<u8>,
+    out: &mut Output,
 ) -> Result<(), DrillError> {
     let known = site.schema()?;
     let table = table_of(alloc, &known, table, line)?;
@@ -138,6 +153,7 @@ pub fn find<T: Site>(
         Ok(row) => tell_found(out, &row),
         Err(error) => tell_bank_error(out, error),
     }
+    Ok(())
 }
 
 /// Tells the instance that the row at a key is in.
@@ -147,7 +163,7 @@ pub fn reach<T: Site>(
     table: &str,
     text: &str,
     line: usize,
-    out: &mut Vec<u8>,
+    out: &mut Output,
 ) -> Result<(), DrillError> {
     let known = site.schema()?;
     let (key, tree) = text.split_once(" in ").unwrap_or((text, ""));
@@ -158,6 +174,7 @@ pub fn reach<T: Site>(
         Ok(reached) => tell_reached(out, &known, &tree, &reached),
         Err(error) => tell_bank_error(out, error),
     }
+    Ok(())
 }
 
 /// Tells what changed since a position, where no call to come asks since one before another.
@@ -168,7 +185,7 @@ pub fn changes<T: Site>(
     wants: &str,
     trees: &str,
     line: usize,
-    out: &mut Vec<u8>,
+    out: &mut Output,
 ) -> Result<(), DrillError> {
     let known = site.schema()?;
     let wants = wants_of(alloc, &known, wants, line)?;
@@ -178,19 +195,20 @@ pub fn changes<T: Site>(
         Ok(changes) => tell_changes(out, &known, trees.as_slice(), &changes),
         Err(error) => tell_bank_error(out, error),
     }
+    Ok(())
 }
 
 /// Tells whether it tells what changed since a position.
-pub fn tells<T: Site>(site: &mut T, since: Position, out: &mut Vec<u8>) -> Result<(), DrillError> {
+pub fn tells<T: Site>(site: &mut T, since: Position, out: &mut Output) {
     if site.tells_since(since) {
-        tell_lines(out, b"yes")
+        out.put_line("yes");
     } else {
-        tell_lines(out, b"no")
+        out.put_line("no");
     }
 }
 
 /// Tells the definitions.
-pub fn schema<T: Site>(site: &mut T, out: &mut Vec<u8>) -> Result<(), DrillError> {
+pub fn schema<T: Site>(site: &mut T, out: &mut Output) {
     match site.schema() {
         Ok(known) => tell_schema(out, &known),
         Err(error) => tell_bank_error(out, error),
@@ -203,7 +221,7 @@ pub fn snapshot<T: Site>(
     site: &mut T,
     tables: &str,
     line: usize,
-    out: &mut Vec<u8>,
+    out: &mut Output,
 ) -> Result<(), DrillError> {
     let known = site.schema()?;
     let tables = tables_of(alloc, &known, tables, line)?;
@@ -211,4 +229,5 @@ pub fn snapshot<T: Site>(
         Ok(copy) => tell_snapshot(out, &copy),
         Err(error) => tell_bank_error(out, error),
     }
+    Ok(())
 }

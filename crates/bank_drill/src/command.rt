@@ -54,21 +54,7 @@ impl<'a> Command<'a> {
 fn parse_call(text: &str) -> Option<Command<'_>> {
     let (word, rest) = first_word(text);
     match word {
-        "seal" => {
-            let (ticket, ops) = first_word(rest);
-            let ticket = ticket.parse::<u64>().ok()?;
-            Some(Command::Seal(ticket, ops))
-        }
-        "apply" => {
-            let (ticket, after) = first_word(rest);
-            let ticket = ticket.parse::<u64>().ok()?;
-            Some(Command::Apply(ticket, after))
-        }
-        "passed" => {
-            let (ticket, write) = first_word(rest);
-            let ticket = ticket.parse::<u64>().ok()?;
-            Some(Command::Passed(ticket, write))
-        }
+        "seal" | "apply" | "passed" => parse_ticketed(word, rest),
         "find" => {
             let (table, key) = first_word(rest);
             Some(Command::Find(table, key))
@@ -77,21 +63,8 @@ fn parse_call(text: &str) -> Option<Command<'_>> {
             let (table, rest) = first_word(rest);
             Some(Command::Reach(table, rest))
         }
-        "changes" => {
-            let (from, rest) = first_word(rest);
-            let (since, least) = from.split_once('/').unwrap_or((from, "0"));
-            let since = since.parse::<u64>().ok()?;
-            let least = least.parse::<u64>().ok()?;
-            let (wants, trees) = match rest.strip_prefix("in ") {
-                Some(trees) => ("", trees),
-                None => rest.split_once(" in ")?,
-            };
-            Some(Command::Changes(since, least, wants, trees))
-        }
-        "tells" => {
-            let since = rest.parse::<u64>().ok()?;
-            Some(Command::Tells(since))
-        }
+        "changes" => parse_changes(rest),
+        "tells" => parse_tells(rest),
         "schema" => Some(Command::Schema),
         "snapshot" => Some(Command::Snapshot(rest)),
         "put" => Some(Command::Put(rest)),
@@ -100,6 +73,34 @@ fn parse_call(text: &str) -> Option<Command<'_>> {
         "open" => Some(Command::Open(rest)),
         _ => None,
     }
+}
+
+// A call with a ticket before the text.
+fn parse_ticketed<'a>(word: &str, text: &'a str) -> Option<Command<'a>> {
+    let (ticket, rest) = first_word(text);
+    let ticket = ticket.parse::<u64>().ok()?;
+    match word {
+        "seal" => Some(Command::Seal(ticket, rest)),
+        "apply" => Some(Command::Apply(ticket, rest)),
+        _ => Some(Command::Passed(ticket, rest)),
+    }
+}
+
+fn parse_changes(text: &str) -> Option<Command<'_>> {
+    let (from, rest) = first_word(text);
+    let (since, least) = from.split_once('/').unwrap_or((from, "0"));
+    let since = since.parse::<u64>().ok()?;
+    let least = least.parse::<u64>().ok()?;
+    let (wants, trees) = match rest.strip_prefix("in ") {
+        Some(trees) => ("", trees),
+        None => rest.split_once(" in ")?,
+    };
+    Some(Command::Changes(since, least, wants, trees))
+}
+
+fn parse_tells(text: &str) -> Option<Command<'_>> {
+    let since = text.parse::<u64>().ok()?;
+    Some(Command::Tells(since))
 }
 
 // The text up to its first blank, and what stands behind that.

@@ -7,7 +7,7 @@ use std::io;
 use thiserror::Error;
 
 /// Why the drill ends early.
-#[derive(Debug, Drop, Error)]
+#[derive(Clone, Copy, Debug, Error)]
 pub enum DrillError {
     /// The line with this number, from 1, asks for nothing that there is.
     #[error("line {0} isn't understood")]

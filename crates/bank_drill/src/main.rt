@@ -18,6 +18,7 @@ use error::DrillError;
 use stage::Stage;
 use std::io::{Read, Write};
 use std::process::ExitCode;
+use telling::Output;
 
 /// The status where nothing more was done.
 const STOPPED: u8 = 99;
@@ -35,20 +36,21 @@ fn main(rt: HostRuntime) -> ExitCode {
 fn run(rt: &HostRuntime) -> Result<(), DrillError> {
     let mut bytes = Vec::new(rt.alloc());
     rt.stdin().read_to_end(&mut bytes)?;
-    let text = told(rt, bytes.as_slice())?;
-    rt.stdout().write_all(text.as_slice())?;
+    let out = told(rt, bytes.as_slice())?;
+    rt.stdout().write_all(out.bytes())?;
     Ok(())
 }
 
 // What is told of the script.
-fn told(rt: &HostRuntime, bytes: &[u8]) -> Result<Vec<u8>, DrillError> {
-    let mut out = Vec::new(rt.alloc());
+fn told(rt: &HostRuntime, bytes: &[u8]) -> Result<Output, DrillError> {
+    let mut out = Output::new(rt.alloc());
     let mut stage = Stage::open(rt)?;
     let mut number: usize = 0;
     for line in bytes.split(|byte| *byte == b'\n') {
         number = number.saturating_add(1);
         if !line.is_empty() {
             stage = stage.follow(rt, line, number, &mut out)?;
+            out.check()?;
         }
     }
     Ok(out)

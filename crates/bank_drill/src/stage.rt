@@ -1,9 +1,10 @@
 //! The site, and what a script keeps beside it.
 
-use crate::answers::{tell_bank_error, tell_lines, tell_opening};
+use crate::answers::{tell_bank_error, tell_opening};
 use crate::calls::{apply, changes, console, find, passed, reach, schema, seal, snapshot, tells};
 use crate::command::Command;
 use crate::error::DrillError;
+use crate::telling::Output;
 use backing_sqlite::{RealSite, SqliteBank};
 use file_disk::FileDisk;
 use outside::{Disk, Slot};
@@ -40,9 +41,11 @@ impl Stage {
         rt: &HostRuntime,
         line: &[u8],
         number: usize,
-        out: &mut Vec<u8>,
+        out: &mut Output,
     ) -> Result<Stage, DrillError> {
-        tell_lines(out, line)?;
+        out.put_bytes(line);
+        out.end_line();
+        out.check()?;
         match Command::parse(line) {
             None => Err(DrillError::Line(number)),
             Some(Command::Again) => self.again(rt, out),
@@ -55,12 +58,12 @@ impl Stage {
     }
 
     // Closes the files and opens them again.
-    fn again(self, rt: &HostRuntime, out: &mut Vec<u8>) -> Result<Stage, DrillError> {
+    fn again(self, rt: &HostRuntime, out: &mut Output) -> Result<Stage, DrillError> {
         let Self { site, sealed } = self;
         let (_, bank) = site.parts();
         match bank.close() {
-            Ok(()) => tell_lines(out, b"closed")?,
-            Err(error) => tell_bank_error(out, error)?,
+            Ok(()) => out.put_line("closed"),
+            Err(error) => tell_bank_error(out, error),
         }
         Ok(Stage {
             site: open_site(rt)?,
@@ -73,7 +76,7 @@ impl Stage {
         rt: &HostRuntime,
         command: Command<'_>,
         line: usize,
-        out: &mut Vec<u8>,
+        out: &mut Output,
     ) -> Result<(), DrillError> {
         let alloc = rt.alloc();
         match command {
@@ -104,12 +107,21 @@ impl Stage {
                 let from = (Position(since), Position(least));
                 changes(alloc, &mut self.site, from, wants, trees, line, out)
             }
-            Command::Tells(since) => tells(&mut self.site, Position(since), out),
-            Command::Schema => schema(&mut self.site, out),
+            Command::Tells(since) => {
+                tells(&mut self.site, Position(since), out);
+                Ok(())
+            }
+            Command::Schema => {
+                schema(&mut self.site, out);
+                Ok(())
+            }
             Command::Snapshot(tables) => snapshot(alloc, &mut self.site, tables, line, out),
             Command::Put(text) => put(&mut self.site, text.as_bytes()),
             Command::Get => get(&mut self.site, out),
-            Command::Open(path) => tell_opening(alloc, SqliteBank::open(rt, path), out),
+            Command::Open(path) => {
+                tell_opening(alloc, SqliteBank::open(rt, path), out)?;
+                Ok(())
+            }
             Command::Console(text) => console(alloc, &mut self.site, text, line, out),
         }
     }
@@ -127,12 +139,12 @@ fn put<D: Disk>(disk: &mut D, bytes: &[u8]) -> Result<(), DrillError> {
     Ok(())
 }
 
-fn get<D: Disk>(disk: &mut D, out: &mut Vec<u8>) -> Result<(), DrillError> {
+fn get<D: Disk>(disk: &mut D, out: &mut Output) -> Result<(), DrillError> {
     let mut buf = [0u8; TOLD];
     let count = disk.read_at(Slot::Second, 1, &mut buf)?;
     for byte in buf.iter().take(count) {
-        out.push(*byte)?;
+        out.put_bytes(&[*byte]);
     }
-    out.push(b'\n')?;
+    out.end_line();
     Ok(())
 }

@@ -2,79 +2,136 @@
 
 use crate::error::DrillError;
 use itoa::Buffer;
-use row_types::{Column, Row, Ty, print_values_into};
+use row_types::{Column, Key, Row, Ty, print_key_into, print_values_into};
+use std::alloc::Global;
 use table_defs::TableDef;
 use tier_base::Name;
 
-/// The bytes.
-pub fn put(out: &mut Vec<u8>, bytes: &[u8]) -> Result<(), DrillError> {
-    out.extend_from_slice(bytes)?;
-    Ok(())
+/// What is told. Where memory is wanting nothing is put any more, so that what tells an answer needn't look at each part of
+/// it.
+pub struct Output {
+    bytes: Vec<u8>,
+    is_whole: bool,
 }
 
-/// The end of a line.
-pub fn end_line(out: &mut Vec<u8>) -> Result<(), DrillError> {
-    out.push(b'\n')?;
-    Ok(())
+impl Drop for Output {
+    fn drop(self) {
+        let Self {
+            bytes: _,
+            is_whole: _,
+        } = self;
+    }
 }
 
-/// A name.
-pub fn tell_name(out: &mut Vec<u8>, name: &Name) -> Result<(), DrillError> {
-    put(out, name.as_bytes())
-}
+impl Output {
+    /// Nothing yet.
+    pub fn new(alloc: Global) -> Output {
+        Output {
+            bytes: Vec::new(alloc),
+            is_whole: true,
+        }
+    }
 
-/// A number.
-pub fn tell_number(out: &mut Vec<u8>, number: u64) -> Result<(), DrillError> {
-    let mut digits = Buffer::new();
-    put(out, digits.format(number).as_bytes())
-}
+    /// It fails where memory was wanting.
+    pub fn check(&self) -> Result<(), DrillError> {
+        if self.is_whole {
+            Ok(())
+        } else {
+            Err(DrillError::Memory)
+        }
+    }
 
-/// A row as a line.
-pub fn tell_row(out: &mut Vec<u8>, row: &Row) -> Result<(), DrillError> {
-    print_values_into(out, row.values())?;
-    end_line(out)
+    /// What was told.
+    pub fn bytes(&self) -> &[u8] {
+        self.bytes.as_slice()
+    }
+
+    /// The bytes.
+    pub fn put_bytes(&mut self, bytes: &[u8]) {
+        if self.is_whole {
+            self.is_whole = self.bytes.extend_from_slice(bytes).is_ok();
+        }
+    }
+
+    /// The text.
+    pub fn put(&mut self, text: &str) {
+        self.put_bytes(text.as_bytes());
+    }
+
+    /// The end of a line.
+    pub fn end_line(&mut self) {
+        self.put("\n");
+    }
+
+    /// The text as a line.
+    pub fn put_line(&mut self, text: &str) {
+        self.put(text);
+        self.end_line();
+    }
+
+    /// A name.
+    pub fn put_name(&mut self, name: &Name) {
+        self.put_bytes(name.as_bytes());
+    }
+
+    /// A number.
+    pub fn put_number(&mut self, number: u64) {
+        let mut digits = Buffer::new();
+        self.put(digits.format(number));
+    }
+
+    /// A row as a line.
+    pub fn put_row(&mut self, row: &Row) {
+        if self.is_whole {
+            self.is_whole = print_values_into(&mut self.bytes, row.values()).is_ok();
+        }
+        self.end_line();
+    }
+
+    /// A key behind a blank.
+    pub fn put_key(&mut self, key: &Key) {
+        self.put(" ");
+        if self.is_whole {
+            self.is_whole = print_key_into(&mut self.bytes, key).is_ok();
+        }
+    }
 }
 
 /// A column as a line.
-pub fn tell_column(out: &mut Vec<u8>, column: &Column) -> Result<(), DrillError> {
-    put(out, b"  ")?;
-    tell_name(out, &column.name)?;
-    tell_type(out, column.ty)?;
-    put(
-        out,
-        if column.not_null {
-            b" NOT NULL\n".as_slice()
-        } else {
-            b"\n".as_slice()
-        },
-    )
+pub fn tell_column(out: &mut Output, column: &Column) {
+    out.put("  ");
+    out.put_name(&column.name);
+    tell_type(out, column.ty);
+    if column.not_null {
+        out.put(" NOT NULL");
+    }
+    out.end_line();
 }
 
-fn tell_type(out: &mut Vec<u8>, ty: Ty) -> Result<(), DrillError> {
+fn tell_type(out: &mut Output, ty: Ty) {
     match ty {
-        Ty::TtInteger => put(out, b" TT_INTEGER"),
-        Ty::TtBigint => put(out, b" TT_BIGINT"),
-        Ty::Timestamp => put(out, b" TIMESTAMP"),
+        Ty::TtInteger => out.put(" TT_INTEGER"),
+        Ty::TtBigint => out.put(" TT_BIGINT"),
+        Ty::Timestamp => out.put(" TIMESTAMP"),
         Ty::Varchar2(size) => {
-            put(out, b" VARCHAR2 ")?;
-            tell_number(out, u64::from(size))
+            out.put(" VARCHAR2 ");
+            out.put_number(u64::from(size));
         }
         Ty::Number(precision, scale) => {
-            put(out, b" NUMBER ")?;
-            tell_number(out, u64::from(precision))?;
-            put(out, b" ")?;
-            tell_number(out, u64::from(scale))
+            out.put(" NUMBER ");
+            out.put_number(u64::from(precision));
+            out.put(" ");
+            out.put_number(u64::from(scale));
         }
     }
 }
 
 /// The names of the columns at these places.
-pub fn tell_places(out: &mut Vec<u8>, def: &TableDef, places: &[usize]) -> Result<(), DrillError> {
+pub fn tell_places(out: &mut Output, def: &TableDef, places: &[usize]) {
     for place in places {
-        put(out, b" ")?;
+        out.put(" ");
         if let Some(column) = def.columns.get(*place) {
-            tell_name(out, &column.name)?;
+            out.put_name(&column.name);
         }
     }
-    Ok(())
 }

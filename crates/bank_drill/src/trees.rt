@@ -1,12 +1,11 @@
 //! Trees as a script spells them.
 
-use crate::asking::{asked, key_of, table_of};
+use crate::asking::{key_of, table_of, writes_of};
 use crate::error::DrillError;
 use expressions::Cond;
 use instances::{Child, Root, Tree};
 use resolution::resolve_filter;
 use sql_query::{Delete, Write};
-use sql_subset::request::ConsoleRequest;
 use std::alloc::Global;
 use table_defs::{BackingSchema, TableDef, find_table};
 use table_state::RowKey;
@@ -70,11 +69,9 @@ fn covered(
     line: usize,
 ) -> Result<(TableId, Option<Cond>), DrillError> {
     let text = format!(in alloc; "DELETE FROM {text}")?;
-    match asked(alloc, text.as_str())? {
-        Some(ConsoleRequest::Writes(writes)) => match writes.as_slice() {
-            [Write::Delete(delete)] => covered_by(alloc, schema, delete, line),
-            _ => Err(DrillError::Line(line)),
-        },
+    let writes = writes_of(alloc, text.as_str(), line)?;
+    match writes.as_slice() {
+        [Write::Delete(delete)] => covered_by(alloc, schema, delete, line),
         _ => Err(DrillError::Line(line)),
     }
 }

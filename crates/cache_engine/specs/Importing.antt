@@ -1,5 +1,5 @@
--- `import`: the rows of a CSV file go into a backing table, as one transaction of the console. (This project's rule; RFC
--- 4180; TimesTen SQL Reference, "INSERT".)
+-- `import`: the rows of a CSV file go into a backing table, as one transaction of the console. (This project's rule;
+-- RFC 4180; TimesTen SQL Reference, "INSERT".)
 
 use Rattle.std.specs.Prelude.{◌≡◌, ℕ, List, [], ◌∷◌, Bool, true, false, Option, Some, None, Result, Ok, Err, slice_get, if◌then◌else◌}
 use Rattle.std.specs.Option.{option_and_then}
@@ -38,7 +38,8 @@ asked_at schema (Some id) = option_and_then (λ def. Some (record { id = id; def
 -- 102 of a word that is no table's name: of a name that name, of another word none
 abbrev pub unknown_rule : List ℕ → Rule
 unknown_rule word =
-    if is_name word then named code.UnknownTable (folded word) else record { code = code.UnknownTable; detail = detail.NoType }
+    if is_name word then named code.UnknownTable (folded word)
+    else record { code = code.UnknownTable; detail = detail.NoType }
 
 abbrev pub table_asked : List TableDef → List ℕ → Option Asked
 table_asked schema word = if is_name word then asked_at schema (place_of_table schema (folded word)) else None

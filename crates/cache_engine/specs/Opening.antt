@@ -3,7 +3,7 @@
 use Rattle.std.specs.Prelude.{◌≡◌, ℕ, Option, Some, None, Bool, true, false}
 use Rattle.outside.specs.Holding.{Held}
 use Rattle.outside.specs.Sites.{SiteState}
-use Rattle.commit_journal.specs.Opening.{HaveBytes}
+use Rattle.commit_journal.specs.Layout.{HaveBytes}
 use Rattle.cache_tier.specs.TierStates.{Settings}
 use Rattle.cache_tier.specs.Worlds.{World}
 use Rattle.tier_journal.specs.declared.journal.TierJournal.{TierJournal}

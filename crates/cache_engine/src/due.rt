@@ -31,9 +31,9 @@ pub struct Due {
 
 /// The moment of a line comes, which is the greater of the last one and the base with the console's additions, and what
 /// is due then is done: a commit in doubt is settled, then a round of propagation, then the refreshes of sets by rising
-/// interval, then the cycles of aging. Where the question for the doubt fails, or memory is wanting for it, the line ends with that, and nothing
-/// else is done. A later fault of the bank, or want of memory, becomes a note, and the line goes on; another fault ends
-/// it, and so does want of memory for the cycles of aging, of which none is run then.
+/// interval, then the cycles of aging. Where the question for the doubt fails, or memory is wanting for it, the line
+/// ends with that, and nothing else is done. A later fault of the bank, or want of memory, becomes a note, and the line
+/// goes on; another fault ends it, and so does want of memory for the cycles of aging, of which none is run then.
 ///
 /// It fails for want of memory alone, before anything is done. (TimesTen Cache User's Guide, "Automatically refreshing
 /// a cache group", "Implementing aging on a cache group"; the order is this project's rule.)

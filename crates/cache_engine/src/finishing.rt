@@ -10,8 +10,8 @@ use kept_journal::flush_tail;
 use outside::Site;
 use std::alloc::Global;
 
-/// Flushes what waits in the journal's tail, where a journal is kept, at the end of the input. It takes no memory, and a
-/// commit may be in doubt.
+/// Flushes what waits in the journal's tail, where a journal is kept, at the end of the input. It takes no memory, and
+/// a commit may be in doubt.
 ///
 /// The error is the reply `fault 202`: a call of the disk failed, only where the count of its faults rose. The engine
 /// isn't to be used any more. (The journal is this project's.)

@@ -26,9 +26,9 @@ use tier_statements::{done, refuse};
 /// none. The reply tells how many they are; a file with a header alone is no transaction. The engine stays as it is.
 ///
 /// The refusal is 102 where no backing table has this name, and 121 of a writethrough group's table; then what the file
-/// breaks, record by record, as `csv_import::read_inserts` tells it: 101, 105, 106, and 119 past 10,000 records; then what
-/// the backing database refuses of the INSERTs: 107 and 108. It is 201 where its call failed: all of them came, or none.
-/// (RFC 4180; TimesTen SQL Reference, "INSERT"; the codes and their order are this project's rule.)
+/// breaks, record by record, as `csv_import::read_inserts` tells it: 101, 105, 106, and 119 past 10,000 records; then
+/// what the backing database refuses of the INSERTs: 107 and 108. It is 201 where its call failed: all of them came, or
+/// none. (RFC 4180; TimesTen SQL Reference, "INSERT"; the codes and their order are this project's rule.)
 pub fn import_rows<P: Site>(
     engine: &Engine,
     alloc: Global,

@@ -40,8 +40,8 @@ use tier_journal::TierJournal;
 use tier_statements::{done, refuse};
 
 /// Answers a line that is admitted, where nothing is in doubt: the bank is asked for the schema where the line wants
-/// it, and the line does what it says. A COMMIT whose call failed leaves its ticket in doubt, and so does a write that is
-/// passed on.
+/// it, and the line does what it says. A COMMIT whose call failed leaves its ticket in doubt, and so does a write that
+/// is passed on.
 pub(crate) fn answer_line<P: Site>(
     tier: &mut Tier,
     doubt: &mut Option<Doubt>,

@@ -29,16 +29,16 @@ pub record Stretch : Type 0 where
   pub entries : List JournalEntry
   pub until : ℕ
 
--- A way of the journal since a moment of the site: how long the history was at that moment, and what the slots have given
--- since, but for what they give now.
+-- A way of the journal since a moment of the site: how long the history was at that moment, and what the slots have
+-- given since, but for what they give now.
 pub record Way : Type 0 where
   pub since : ℕ
   pub from : ℕ
   pub past : List Stretch
 
--- The journal: whether the tier keeps one (where it doesn't, nothing is done to it), the entries that are flushed, those
--- in memory behind them, the length of the live slot, its generation, and its way, where one is asked for. What a line
--- does and answers doesn't hang on the way.
+-- The journal: whether the tier keeps one (where it doesn't, nothing is done to it), the entries that are flushed,
+-- those in memory behind them, the length of the live slot, its generation, and its way, where one is asked for. What a
+-- line does and answers doesn't hang on the way.
 pub record Journal : Type 0 where
   pub kept : Bool
   pub flushed : List JournalEntry
@@ -51,7 +51,11 @@ pub record Journal : Type 0 where
 abbrev pub passed_by : List JournalEntry → ℕ → Option Way → Option Way
 passed_by flushed until None = None
 passed_by flushed until (Some way) =
-    Some (record { since = way.since; from = way.from; past = way.past ++ record { entries = flushed; until = until } ∷ [] })
+    Some (record {
+      since = way.since;
+      from = way.from;
+      past = way.past ++ record { entries = flushed; until = until } ∷ [];
+    })
 
 -- the journal, which the other has become while the history was so long
 abbrev pub on_the_way : ℕ → Journal → Journal → Journal

@@ -52,7 +52,8 @@ last_bytes (Done n) = codes "ok " ++ (decimal n ++ 10 ∷ [])
 last_bytes (No rule) = codes "no " ++ (rule_bytes rule ++ 10 ∷ [])
 last_bytes (Fault rule) = codes "fault " ++ (rule_bytes rule ++ 10 ∷ [])
 
--- a line of due work: of a doubt 131 where the commit stands and 132 where it doesn't, of a round or a refresh its fault
+-- a line of due work: of a doubt 131 where the commit stands and 132 where it doesn't, of a round or a refresh its
+-- fault
 abbrev pub note_bytes : Note → List ℕ
 note_bytes (Committed ticket) = codes "note 131 " ++ (decimal ticket.0 ++ 10 ∷ [])
 note_bytes (RolledBack ticket) = codes "note 132 " ++ (decimal ticket.0 ++ 10 ∷ [])

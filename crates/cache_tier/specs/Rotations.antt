@@ -56,8 +56,9 @@ pub record Rotates (w w' : World) (stop : Option Reply) : Type 0 where
 abbrev pub is_settled : World → Bool
 is_settled w = nat_eq (length w.tier.unsettled) 0
 
--- A journal is kept, its slot is longer than the setting, and nothing is unsettled: the entry of a transaction without a
--- receipt may have come, while a later one that conflicts with it has left, and a new slot would have the first alone.
+-- A journal is kept, its slot is longer than the setting, and nothing is unsettled: the entry of a transaction without
+-- a receipt may have come, while a later one that conflicts with it has left, and a new slot would have the first
+-- alone.
 abbrev pub is_long : World → Bool
 is_long w = w.journal.kept && (nat_lt w.tier.settings.rotate_bytes w.journal.written && is_settled w)
 

@@ -1,6 +1,6 @@
 -- What is read but isn't done yet. User-managed groups, GROUP BY and indexes come later. (TimesTen Cache User's Guide,
--- "User managed cache groups"; TimesTen SQL Reference, "SELECT", "CREATE INDEX", "DROP INDEX"; that such a line is 101 at
--- byte 0, before all but its own 101 and 119, is this project's rule.)
+-- "User managed cache groups"; TimesTen SQL Reference, "SELECT", "CREATE INDEX", "DROP INDEX"; that such a line is 101
+-- at byte 0, before all but its own 101 and 119, is this project's rule.)
 
 use Rattle.std.specs.Prelude.{Bool, true, false, length, nat_lt}
 use Rattle.sql_query.specs.declared.query.Query.{Query}

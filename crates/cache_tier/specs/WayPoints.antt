@@ -3,8 +3,8 @@
 use Rattle.std.specs.Prelude.{◌≡◌, ◌⊎◌, ℕ, ◌≤◌, List, [], ◌∷◌, Some}
 use Rattle.cache_tier.specs.Journals.{Journal, JournalEntry, Stretch, Way}
 
--- The slots give these entries while the history has so many: over each stretch, from where the one before it ended, its
--- own; and from there to the end those that are flushed now.
+-- The slots give these entries while the history has so many: over each stretch, from where the one before it ended,
+-- its own; and from there to the end those that are flushed now.
 abbrev pub IsPoint : ℕ → List Stretch → List JournalEntry → ℕ → List JournalEntry → ℕ → Type 0
 IsPoint from [] flushed end entries count = (from ≤ count) × (count ≤ end) × (entries ≡ flushed)
 IsPoint from (s ∷ past) flushed end entries count =

@@ -99,7 +99,8 @@ pub record AreGained (t : Stored) (w : World) (filled : Choice) (place : ℕ) (m
   pub there : state_at w.history n ≡ Some state
   pub within : n ≤ length w.history
   pub keyed : (k : ℕ) (g : Group) → slice_get (groups_in t.catalog) k ≡ Some g → HasOwnKeys state g
-  pub views : (k : ℕ) (g : Group) (s : Kept) (h : RowsHeld) (o : Option Made) → slice_get (groups_in t.catalog) k ≡ Some g
+  pub views : (k : ℕ) (g : Group) (s : Kept) (h : RowsHeld) (o : Option Made)
+      → slice_get (groups_in t.catalog) k ≡ Some g
       → slice_get t.stores.items k ≡ Some s → slice_get t.hidden.items k ≡ Some h → slice_get made k ≡ Some o
       → IsViewed (filled k g) state g s h.table (gained_at place more k) o
 

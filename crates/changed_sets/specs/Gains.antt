@@ -59,8 +59,8 @@ abbrev pub rows_wanted : Option Want → List RowKey
 rows_wanted None = []
 rows_wanted (Some want) = record { table = want.table; key = want.key } ∷ []
 
--- The stores show instances of the state at this position of a world's history; the group at a place gains what is wanted
--- there, where something is.
+-- The stores show instances of the state at this position of a world's history; the group at a place gains what is
+-- wanted there, where something is.
 pub record AreGainedBy (t : Stored) (w : World) (filled : Choice) (place : ℕ) (want : Option Want) (n : ℕ)
     (made : List (Option Made)) : Type 0 where
   pub more : List (List Value)

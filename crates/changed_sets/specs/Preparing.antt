@@ -33,8 +33,8 @@ IsPatchOf t filled gains k told o =
 abbrev pub count_before : Choice → ℕ → List Group → ℕ
 count_before filled k groups = length (trees_of filled 0 (take k groups))
 
--- of each group, where instances were told of the trees of those that keep rows, in their order; the one at a place gains
--- what is wanted
+-- of each group, where instances were told of the trees of those that keep rows, in their order; the one at a place
+-- gains what is wanted
 pub record ArePatches (t : Stored) (filled : Choice) (place : ℕ) (touched : List (List Touched))
     (patches : List (Option Patch)) : Type 0 where
   pub long : length patches ≡ length (groups_in t.catalog)

@@ -1,5 +1,5 @@
--- What is read of the bank for a refresh by what changed. (TimesTen Cache User's Guide, "Automatically refreshing a cache
--- group": incremental autorefresh; that all groups of a refresh have one position is this project's rule.)
+-- What is read of the bank for a refresh by what changed. (TimesTen Cache User's Guide, "Automatically refreshing a
+-- cache group": incremental autorefresh; that all groups of a refresh have one position is this project's rule.)
 
 use Rattle.std.specs.Prelude.{◌≡◌, ◌≤◌, ◌+◌, ℕ, List, Option, Some, Result, Ok, Err, slice_get}
 use Rattle.outside.specs.Sites.{SiteState}
@@ -28,8 +28,8 @@ HasRoomAt k patches stores =
 abbrev pub HaveRoom : List (Option Patch) → List Kept → Type 0
 HaveRoom patches stores = (k : ℕ) → HasRoomAt k patches stores
 
--- What is read for a refresh: behind its patches the stores show the instances of the state at its position, with what is
--- wanted of the group at a place.
+-- What is read for a refresh: behind its patches the stores show the instances of the state at its position, with what
+-- is wanted of the group at a place.
 abbrev pub ReadsChangedIn : Stored → SiteState → Choice → ℕ → Option Want → World → Result Changed BankError → Type 0
 ReadsChangedIn t behind filled place want w (Ok changed) =
     (r : IsRead t behind (Ok changed.position.0) w)

@@ -1,5 +1,5 @@
--- The position since which a set is refreshed by what changed. (TimesTen Cache User's Guide, "Automatically refreshing a
--- cache group": AUTOREFRESH MODE INCREMENTAL and FULL; the rest is this project's rule.)
+-- The position since which a set is refreshed by what changed. (TimesTen Cache User's Guide, "Automatically refreshing
+-- a cache group": AUTOREFRESH MODE INCREMENTAL and FULL; the rest is this project's rule.)
 
 use Rattle.std.specs.Prelude.{ℕ, suc, List, [], ◌∷◌, ◌++◌, Bool, true, false, ◌&&◌, ◌||◌, not, Option, Some, None, if◌then◌else◌}
 use Rattle.instances.specs.declared.tree.Tree.{Tree}
@@ -15,14 +15,14 @@ abbrev pub is_full : RefreshMode → Bool
 is_full Incremental = false
 is_full Full = true
 
--- A READONLY group of MODE INCREMENTAL. Where its instances leave by last use it is dynamic: of an explicit one those that
--- are new at the bank would come as the newest.
+-- A READONLY group of MODE INCREMENTAL. Where its instances leave by last use it is dynamic: of an explicit one those
+-- that are new at the bank would come as the newest.
 abbrev pub goes_by_changes : Group → Bool
 goes_by_changes g =
     is_read_only g && not (is_full g.def.mode) && (g.def.dynamic || not (is_by_use g.def.aging))
 
--- Where the group is chosen, it goes by changes, and where it keeps rows its STATE is ON, and it is at this position. (The
--- bank keeps what changed since the positions of groups that are ON.)
+-- Where the group is chosen, it goes by changes, and where it keeps rows its STATE is ON, and it is at this position.
+-- (The bank keeps what changed since the positions of groups that are ON.)
 abbrev pub is_ready_since : Choice → ℕ → ℕ → Group → Bool
 is_ready_since chosen n place g =
     not (chosen place g)

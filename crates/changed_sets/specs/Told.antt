@@ -17,8 +17,8 @@ use Rattle.group_store.specs.Keeping.{IsFor, KeepsShown}
 use Rattle.group_store.specs.Stores.{Kept}
 use Rattle.changed_sets.specs.Turning.{cut_of, turn_of, turned}
 
--- Of a tree the instances that were told, each once, are those of the second state, and another has the rows that it had
--- in the first.
+-- Of a tree the instances that were told, each once, are those of the second state, and another has the rows that it
+-- had in the first.
 pub record TellsTree (from to : TableState) (tree : Tree) (told : List Touched) : Type 0 where
   pub now : (i : ℕ) (t : Touched) → slice_get told i ≡ Some t → t.instance ≡ instance_under to tree t.instance.root
   pub once :
@@ -36,8 +36,8 @@ abbrev pub AreUnderKeys : TableState → Type 0
 AreUnderKeys s =
     (t : TableId) (def : TableDef) → slice_get s.schema t.0 ≡ Some def → IsUnderKeys def.primary_key (table_at s t)
 
--- A store that shows instances of the first state shows those of the second, once the told ones were cut down, and those
--- of them that are shown then were put in.
+-- A store that shows instances of the first state shows those of the second, once the told ones were cut down, and
+-- those of them that are shown then were put in.
 abbrev pub ShowsChanged : TableState → TableState → Tree → Type 0
 ShowsChanged from to tree =
     (told : List Touched) (shown : Touched → Bool) (was now : List Value → Bool) (s : Kept)

@@ -15,8 +15,8 @@ use Rattle.changed_sets.specs.declared.turns.Cut.{Cut}
 use Rattle.changed_sets.specs.declared.turns.Patch.{Patch}
 use Rattle.changed_sets.specs.declared.turns.Turn.{Turn}
 
--- An instance that is there, and shown then, becomes its root row, as it is now: its key keeps its place in the order of
--- last use. Another one leaves the store, whatever it was.
+-- An instance that is there, and shown then, becomes its root row, as it is now: its key keeps its place in the order
+-- of last use. Another one leaves the store, whatever it was.
 abbrev pub cut_by : Option (List (List (List Value))) → List Value → Kept → Kept
 cut_by None root s = cut_store 0 root s
 cut_by (Some bare) root s =
@@ -75,8 +75,8 @@ IsCutUnder columns c = IsBareUnder columns c.root c.bare
 abbrev pub AreUnder : List ℕ → List Cut → Type 0
 AreUnder columns cuts = (i : ℕ) (c : Cut) → slice_get cuts i ≡ Some c → IsCutUnder columns c
 
--- The instance that was told is shown of a group, where this was its store and these its hidden root rows: its root row is
--- in the view, and past the horizon, and a dynamic group has its key, or gains what is wanted.
+-- The instance that was told is shown of a group, where this was its store and these its hidden root rows: its root row
+-- is in the view, and past the horizon, and a dynamic group has its key, or gains what is wanted.
 abbrev pub is_shown_told : Group → Kept → Table → Bool → Touched → Bool
 is_shown_told g s hidden gains t =
     (not g.def.dynamic || (is_held s hidden t.instance.root || (gains && t.wanted)))

@@ -29,9 +29,9 @@ use stored_tier::tier::Tier;
 use table_defs::BackingSchema;
 use tier_base::Seq;
 
-/// What becomes of the chosen groups that keep rows, of which these instances were told; nothing of the others. The one at
-/// a place gains what is wanted. It fails for want of memory, and where the bank told of fewer trees, of more tables than
-/// a tree has, or of a root row under another key.
+/// What becomes of the chosen groups that keep rows, of which these instances were told; nothing of the others. The one
+/// at a place gains what is wanted. It fails for want of memory, and where the bank told of fewer trees, of more tables
+/// than a tree has, or of a root row under another key.
 pub(crate) fn prepare(
     alloc: Global,
     tier: &Tier,

@@ -33,8 +33,8 @@ use table_state::RowKey;
 use tier_base::Position;
 
 /// What changed since the position of the chosen groups is read, and all that its showing takes is made ready. Where an
-/// instance is wanted the group at a place gains it, if it is dynamic and among them, and the root row is in its view and
-/// past its horizon. Nothing changes but the room in the stores.
+/// instance is wanted the group at a place gains it, if it is dynamic and among them, and the root row is in its view
+/// and past its horizon. Nothing changes but the room in the stores.
 ///
 /// It is `Failed` where the call failed, and `Memory` where memory was wanting, or the bank told what no tree has.
 pub fn read_changed<P: Site>(

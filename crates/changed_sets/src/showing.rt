@@ -54,12 +54,12 @@ impl Changed {
     }
 }
 
-/// What changed is shown: told instances leave their stores, but for the root rows of those that are shown then, and these
-/// have all their rows again; no root row is hidden, and the chosen groups are at the position.
+/// What changed is shown: told instances leave their stores, but for the root rows of those that are shown then, and
+/// these have all their rows again; no root row is hidden, and the chosen groups are at the position.
 ///
 /// Where sessions might read over the stored rows before, and it is known that those that come in fit, it is found out
-/// behind it whether they still may. It takes no memory but for the judging of what sessions wrote; where that is wanting
-/// each row is looked at before the next statement.
+/// behind it whether they still may. It takes no memory but for the judging of what sessions wrote; where that is
+/// wanting each row is looked at before the next statement.
 pub fn show_changed(tier: &mut Tier, alloc: Global, chosen: Chosen, changed: Changed)
     requires sound { IsSound tier.old }
     requires ready { AreReady tier.old changed.patches.items }

@@ -19,8 +19,8 @@ use stored_tier::refreshing::{Chosen, is_on, is_read_only, is_shown_again};
 use tier_base::Position;
 
 /// The position since which the chosen groups are refreshed by what changed: that of those that keep rows, where each
-/// of them has it, and STATE ON. There is none where none of the chosen groups keeps rows, and where one isn't READONLY,
-/// has MODE FULL, or is explicit and its instances leave by last use; then they are read whole.
+/// of them has it, and STATE ON. There is none where none of the chosen groups keeps rows, and where one isn't
+/// READONLY, has MODE FULL, or is explicit and its instances leave by last use; then they are read whole.
 pub fn asked_since(catalog: &Catalog, chosen: Chosen) -> Option<Position>
     ensures { option_map (λ (p : OnePosition). p.0) result ≡ asked_since (choice_of chosen) (groups_in catalog.now) }
 {
@@ -36,8 +36,8 @@ pub fn asked_since(catalog: &Catalog, chosen: Chosen) -> Option<Position>
     }
 }
 
-/// The position since which the chosen groups are refreshed by what changed, where they have one and the bank tells what
-/// changed since. Nothing that is known of the site changes.
+/// The position since which the chosen groups are refreshed by what changed, where they have one and the bank tells
+/// what changed since. Nothing that is known of the site changes.
 pub fn told_since<P: Site>(catalog: &Catalog, site: &mut P, chosen: Chosen) -> Option<Position>
     ensures since { IfSome result (λ since.
         asked_since (choice_of chosen) (groups_in catalog.now) ≡ Some since.0) }

@@ -6,6 +6,3 @@ pub mod settings;
 
 pub use command::{Command, CommandError, forms_law, read_command};
 pub use settings::{ClockSource, Settings, SettingsError, read_settings, settings_law};
-
-#[cfg(test)]
-mod tests;

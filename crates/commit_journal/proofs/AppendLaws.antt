@@ -16,7 +16,7 @@ use Rattle.commit_journal.specs.declared.journal.Journal.{Journal}
 use Rattle.commit_journal.specs.Layout.{Placed, entries_of}
 use Rattle.commit_journal.specs.Resting.{AtRest, MidFlush}
 use Rattle.commit_journal.proofs.OneReading.{one_standing}
-use Rattle.commit_journal.proofs.TailLaws.{rest_gives}
+use Rattle.commit_journal.proofs.TailLaws.{rest_bytes, rest_gives}
 
 -- a body that reads is its entries' spelling
 pub body_spells : {version : ℕ} {s : Standing} {place : ℕ} {bytes : List ℕ} {placed : List Placed} {ending : Ending} (t : Standing) → Body version s place bytes placed ending → ending ≡ Whole t → bytes ≡ flat_map entry_bytes (entries_of placed)
@@ -60,4 +60,4 @@ module _ (j j' : Journal) (slots : Slots) (flushed : List Entry) (r : AtRest j s
 pub quiet_append : {D : Type 0} (state : D → SiteState) (possible : D → ℕ → Held → Type 0) (a : D) (j : Journal) (o : Held) (flushed others : List Entry) → Certain state possible a o → AtRest j o.slots flushed [] → Leaves state possible a a (MidFlush o flushed others)
 quiet_append state possible a j o flushed others h r = at_once state possible a (MidFlush o flushed others) (λ p here.
     let same : p ≡ o = h.only p here in
-    record { beside = ap (λ (x : Held). x.history) same; gives = inl (rw same (rest_gives j o.slots flushed [] r)) })
+    record { beside = ap (λ (x : Held). x.history) same; bytes = rw same (rest_bytes j o.slots flushed [] r); gives = inl (rw same (rest_gives j o.slots flushed [] r)) })

@@ -11,9 +11,9 @@ use Rattle.journal_entries.specs.Bodies.{beginning, ends}
 use Rattle.commit_journal.specs.declared.head.Head.{Head}
 use Rattle.commit_journal.specs.declared.head.Head.TheVariants.{Dead, Faulty, Live}
 use Rattle.commit_journal.specs.declared.opening.Opened.{Opened}
-use Rattle.commit_journal.specs.Layout.{Placed, head_of, Outcome, Closed, Batches, closed, Beats, Reads, new, faulty, counts, place_of}
+use Rattle.commit_journal.specs.Layout.{Batches, Beats, closed, Closed, counts, faulty, HaveBytes, head_of, new, Outcome, place_of, Placed, Reads}
 use Rattle.commit_journal.specs.Batching.{MidBatch, HasBatch}
-use Rattle.commit_journal.specs.Opening.{Finds, Keeps, Opens, HaveBytes}
+use Rattle.commit_journal.specs.Opening.{Finds, Keeps, Opens}
 use Rattle.commit_journal.proofs.TurnLaws.{other_other, is_one, head_split}
 use Rattle.commit_journal.proofs.BatchLaws.{PutCrash, PutCertain}
 use Rattle.commit_journal.proofs.Pieces.{torn_gate, put_gate}

@@ -1,5 +1,5 @@
 -- Moving on to the other slot: which entries count at each moment.
-use Rattle.std.proofs.Common.{◌≡◌, ◌≢◌, ℕ, suc, ◌-◌, ◌≤◌, ◌<◌, ◌^◌, Bool, true, false, cond, eqb, ltb, List, [], ◌∷◌, ◌++◌, length, get_or, drop, refl, sym, ap, subst, ◌∙◌, append_assoc, arith, inl, inr}
+use Rattle.std.proofs.Common.{◌≡◌, ◌≢◌, ◌⊎◌, ℕ, suc, ◌-◌, ◌≤◌, ◌<◌, ◌^◌, Bool, true, false, cond, eqb, ltb, List, [], ◌∷◌, ◌++◌, length, get_or, drop, refl, sym, ap, subst, ◌∙◌, append_assoc, arith, inl, inr}
 use Rattle.std.specs.Int.{w64, to_be_bytes}
 use Rattle.std.proofs.lemmas.Bool.{eqb-true, eqb-false, le-ltb, ne_eqb}
 use Rattle.std.proofs.lemmas.List.{length-append, append-nil, drop_all}
@@ -20,12 +20,12 @@ use Rattle.journal_entries.specs.Bodies.{Body, beginning, ends, AllFollow, behin
 use Rattle.commit_journal.specs.declared.head.Head.{Head}
 use Rattle.commit_journal.specs.declared.head.Head.TheVariants.{Dead, Faulty, Live}
 use Rattle.commit_journal.specs.declared.journal.Journal.{Journal}
-use Rattle.commit_journal.specs.Layout.{Placed, entries_of, generation_of, live_head, head_of, Closed, Batches, closed, Beats, counts, Gives}
+use Rattle.commit_journal.specs.Layout.{Placed, entries_of, generation_of, live_head, head_of, Closed, Batches, closed, Beats, counts, Gives, HaveBytes}
 use Rattle.commit_journal.specs.Resting.{IsFront, AtRest, Rested}
-use Rattle.commit_journal.specs.Turning.{CanTurn, MidTurn, Turned, batch_of, slot_bytes, MidRotation}
+use Rattle.commit_journal.specs.Turning.{CanTurn, IsAsBefore, IsClosed, MidTurn, Turned, batch_of, slot_bytes, MidRotation}
 use Rattle.commit_journal.proofs.FrontLaws.{front_more, front_gives}
 use Rattle.commit_journal.proofs.TurnLaws.{other_other}
-use Rattle.commit_journal.proofs.TailLaws.{rest_gives}
+use Rattle.commit_journal.proofs.TailLaws.{bytes_of, rest_bytes, rest_gives, some_at}
 
 -- a slot whose first byte isn't 1 isn't live
 pub dead_from : (bytes : List ℕ) → get_or bytes 0 0 ≢ 1 → head_of bytes ≡ Dead
@@ -114,20 +114,35 @@ module _ (j : Journal) (o : Held) (flushed tail : List Entry) (r : AtRest j o.sl
       let beats' : Beats target generation (head_of (slot_of (other target) slots)) = subst (λ (s : Slot). Beats target generation (head_of (slot_of s slots))) (sym (other_other j.slot)) beats in
       record { placed = placed; reads = counts target 2 generation (Closed (length (header generation ++ batch_of body)) t) head beats' batches; are = refl }
 
+  -- no slot is without bytes
+  live_some : (p : Held) → slot_of (other target) p.slots ≡ slot_of (other target) o.slots → 1 ≤ length (slot_of (other target) p.slots)
+  live_some p same =
+      subst (λ (s : Slot). 1 ≤ length (slot_of s p.slots)) (sym (other_other j.slot))
+      (some_at r.front r.junk r.gate (slot_of j.slot p.slots) (subst (λ (s : Slot). slot_of s p.slots ≡ slot_of s o.slots) (other_other j.slot) same ∙ r.bytes))
+
+  bytes_in : (p : Held) → MidTurn target (slot_bytes generation body) o p → HaveBytes p.slots
+  bytes_in p m = by m.there
+    where
+      by : (IsClosed (slot_of target p.slots) × IsAsBefore (other target) o p) ⊎ ((slot_of target p.slots ≡ 1 ∷ slot_bytes generation body) × (IsAsBefore (other target) o p ⊎ IsClosed (slot_of (other target) p.slots))) → HaveBytes p.slots
+      by (inl h) = bytes_of target p.slots h.0.some (live_some p h.1)
+      by (inr (begun, inl same)) = bytes_of target p.slots (some_at [] (slot_bytes generation body) 1 (slot_of target p.slots) begun) (live_some p same)
+      by (inr (begun, inr shut)) = bytes_of target p.slots (some_at [] (slot_bytes generation body) 1 (slot_of target p.slots) begun) shut.some
+
   pub mid_rotation : (p : Held) → MidTurn target (slot_bytes generation body) o p → MidRotation o flushed (entries_of placed) p
   mid_rotation p m = record {
     beside = m.beside;
+    bytes = bytes_in p m;
     gives = elim m.there [
       | inl h ↦
           let same : slot_of j.slot p.slots ≡ slot_of j.slot o.slots = subst (λ (s : Slot). slot_of s p.slots ≡ slot_of s o.slots) (other_other j.slot) h.1 in
           inl (subst (λ (l : List Entry). Gives p.slots l) r.flushed_are
-          (front_gives j.version j.generation r.front r.placed r.before r.is_front j.slot p.slots r.gate r.junk (same ∙ r.bytes) r.shut (dead_from (slot_of target p.slots) h.0)))
+          (front_gives j.version j.generation r.front r.placed r.before r.is_front j.slot p.slots r.gate r.junk (same ∙ r.bytes) r.shut (dead_from (slot_of target p.slots) h.0.dead)))
       | inr h ↦ inr (new_gives p.slots h.0 (elim h.1 [
         | inl same ↦
             let mine : slot_of j.slot p.slots ≡ slot_of j.slot o.slots = subst (λ (s : Slot). slot_of s p.slots ≡ slot_of s o.slots) (other_other j.slot) same in
             beats_live target generation j.version j.generation (head_of (slot_of j.slot p.slots)) (ap (λ (l : List ℕ). head_of l) mine ∙ old_head) above
         | inr none ↦
-            let mine : get_or (slot_of j.slot p.slots) 0 0 ≢ 1 = subst (λ (s : Slot). get_or (slot_of s p.slots) 0 0 ≢ 1) (other_other j.slot) none in
+            let mine : get_or (slot_of j.slot p.slots) 0 0 ≢ 1 = subst (λ (s : Slot). get_or (slot_of s p.slots) 0 0 ≢ 1) (other_other j.slot) none.dead in
             beats_dead target generation (head_of (slot_of j.slot p.slots)) (dead_from (slot_of j.slot p.slots) mine)
       ]))
     ];
@@ -185,7 +200,7 @@ module _ {D : Type 0} (state : D → SiteState) (possible : D → ℕ → Held �
 pub quiet_rotation : {D : Type 0} (state : D → SiteState) (possible : D → ℕ → Held → Type 0) (a : D) (j : Journal) (o : Held) (flushed tail others : List Entry) → Certain state possible a o → AtRest j o.slots flushed tail → Leaves state possible a a (MidRotation o flushed others)
 quiet_rotation state possible a j o flushed tail others h r = at_once state possible a (MidRotation o flushed others) (λ p here.
     let same : p ≡ o = h.only p here in
-    record { beside = ap (λ (x : Held). x.history) same; gives = inl (rw same (rest_gives j o.slots flushed tail r)) })
+    record { beside = ap (λ (x : Held). x.history) same; bytes = rw same (rest_bytes j o.slots flushed tail r); gives = inl (rw same (rest_gives j o.slots flushed tail r)) })
 
 -- the entries of a rotation read as a slot's first batch
 pub rotate_reads : (entries : List Entry) → AllByRecursion (IsEntry 2) entries → AllFollow beginning entries → (s : Standing) → s ≡ behind_all beginning entries

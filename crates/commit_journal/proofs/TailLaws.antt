@@ -4,6 +4,8 @@ use Rattle.std.specs.Int.{w32, to_be_bytes}
 use Rattle.std.specs.List.{flat_map}
 use Rattle.std.proofs.lemmas.Bool.{eqb-true, eqb-false}
 use Rattle.std.proofs.lemmas.List.{length-append, length-drop, append-nil, map-append, flat_map_more, drop_all, map_push, drop-append-le}
+use Rattle.outside.specs.declared.disk.Slot.{Slot}
+use Rattle.outside.specs.declared.disk.Slot.TheVariants.{First, Second}
 use Rattle.outside.specs.Holding.{Slots, Held, slot_of, other}
 use Rattle.outside.specs.Sites.{SiteState}
 use Rattle.outside.specs.Calls.{Certain, Leaves}
@@ -16,7 +18,7 @@ use Rattle.journal_entries.specs.Spelling.{entry_bytes, IsEntry}
 use Rattle.journal_entries.specs.Bodies.{Body, ends, stops, goes, behind, follows}
 use Rattle.journal_entries.proofs.BodyLaws.{some_bytes}
 use Rattle.commit_journal.specs.declared.journal.Journal.{Journal}
-use Rattle.commit_journal.specs.Layout.{Placed, entries_of, head_of, Gives}
+use Rattle.commit_journal.specs.Layout.{Placed, entries_of, head_of, Gives, HaveBytes}
 use Rattle.commit_journal.specs.Resting.{IsFront, AtRest, HasRoom, MidFlush, Rested}
 use Rattle.commit_journal.specs.Batching.{MidBatch, HasBatch}
 use Rattle.commit_journal.proofs.FrontLaws.{batch_of, front_more, front_gives}
@@ -77,6 +79,21 @@ module _ (j j' : Journal) (slots : Slots) (flushed tail : List Entry) (e : Entry
 zero_is : ◌≢◌ {A = ℕ} 0 1
 zero_is e = absurd (omega arith)
 
+-- no slot is without bytes
+pub some_at : (front junk : List ℕ) (gate : ℕ) (slot : List ℕ) → slot ≡ front ++ gate ∷ junk → 1 ≤ length slot
+some_at front junk gate slot is = subst (λ l. 1 ≤ length l) (sym is) (some_behind front)
+  where
+    some_behind : (front : List ℕ) → 1 ≤ length (front ++ gate ∷ junk)
+    some_behind [] = omega arith
+    some_behind (x ∷ front) = omega arith
+
+pub bytes_of : (slot : Slot) (slots : Slots) → 1 ≤ length (slot_of slot slots) → 1 ≤ length (slot_of (other slot) slots) → HaveBytes slots
+bytes_of First slots one more = record { first = one; second = more }
+bytes_of Second slots one more = record { first = more; second = one }
+
+pub rest_bytes : (j : Journal) (slots : Slots) (flushed tail : List Entry) → AtRest j slots flushed tail → HaveBytes slots
+rest_bytes j slots flushed tail r = bytes_of j.slot slots (some_at r.front r.junk r.gate (slot_of j.slot slots) r.bytes) r.other_some
+
 -- at rest the slots give what is flushed
 pub rest_gives : (j : Journal) (slots : Slots) (flushed tail : List Entry) → AtRest j slots flushed tail → Gives slots flushed
 rest_gives j slots flushed tail r =
@@ -123,9 +140,18 @@ module _ (j : Journal) (o : Held) (flushed tail : List Entry) (r : AtRest j o.sl
       subst (λ (l : List Entry). Gives p.slots l) are
       (front_gives j.version j.generation (r.front ++ batch_of body) (r.placed ++ r.tail_placed) j.standing longer j.slot p.slots 0 junk (there ∙ batch_there junk) zero_is (ap (λ (l : List ℕ). head_of l) same ∙ r.other_dead))
 
+  -- no slot is without bytes
+  bytes_in : (p : Held) → MidBatch j.slot r.front r.gate sealed o p → HaveBytes p.slots
+  bytes_in p m = bytes_of j.slot p.slots (live m.there) (subst (λ l. 1 ≤ length l) (sym m.other_same) r.other_some)
+    where
+      live : ((junk : List ℕ) × (slot_of j.slot p.slots ≡ r.front ++ r.gate ∷ junk)) ⊎ ((g : ℕ) × (junk : List ℕ) × (slot_of j.slot p.slots ≡ r.front ++ g ∷ (sealed ++ junk))) → 1 ≤ length (slot_of j.slot p.slots)
+      live (inl h) = some_at r.front h.0 r.gate (slot_of j.slot p.slots) h.1
+      live (inr h) = some_at r.front (sealed ++ h.1) h.0 (slot_of j.slot p.slots) h.2
+
   pub mid_flush : (p : Held) → MidBatch j.slot r.front r.gate sealed o p → MidFlush o flushed tail p
   mid_flush p m = record {
     beside = m.beside;
+    bytes = bytes_in p m;
     gives = elim m.there [
       | inl h ↦ inl (shut_gives p r.gate h.0 m.other_same h.1 r.shut)
       | inr h ↦ elim (eqb h.0 1) as (λ b. eqb h.0 1 ≡ b → Gives p.slots flushed ⊎ Gives p.slots (flushed ++ tail)) [
@@ -176,7 +202,7 @@ module _ {D : Type 0} (state : D → SiteState) (possible : D → ℕ → Held �
   pub quiet_crash : Leaves state possible a a (MidFlush o flushed tail)
   quiet_crash = at_once state possible a (MidFlush o flushed tail) (λ p here.
       let same : p ≡ o = h.only p here in
-      record { beside = ap (λ (x : Held). x.history) same; gives = inl (rw same (rest_gives j o.slots flushed tail r)) })
+      record { beside = ap (λ (x : Held). x.history) same; bytes = rw same (rest_bytes j o.slots flushed tail r); gives = inl (rw same (rest_gives j o.slots flushed tail r)) })
 
   pub quiet_flushed : length j.staged.items ≡ 4 → Rested state possible a j o (flushed ++ tail) []
   quiet_flushed four =

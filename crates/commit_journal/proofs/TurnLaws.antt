@@ -8,7 +8,7 @@ use Rattle.outside.specs.declared.disk.Slot.TheVariants.{First, Second}
 use Rattle.outside.specs.Holding.{Held, slot_of, other, with_bytes}
 use Rattle.outside.specs.Calls.{Told, GoesOn, Stays, Same, Changes, Torn, Cut, patched, MayWrite, Wrote, MayCut, WasCut, Durable, Certain, Leaves}
 use Rattle.outside.proofs.Moments.{slot_with, other_with, other_stays, told_then, one_call, and_then, weaker, cut_leaves, sync_certain}
-use Rattle.commit_journal.specs.Turning.{Filling, Filled, HasBegun, MidTurn, Turned}
+use Rattle.commit_journal.specs.Turning.{Filling, Filled, HasBegun, IsClosed, MidTurn, Turned}
 use Rattle.commit_journal.proofs.Pieces.{torn_gate, put_gate}
 use Rattle.commit_journal.proofs.BatchLaws.{PutCrash, PutCertain}
 
@@ -29,6 +29,17 @@ first_cut old new some c =
     let long : 0 < length new = omega (arith, c.no_shorter) in
     ap (λ (l : List ℕ). get_or l 0 0) (sym c.front) ∙ get_or-take (length new) old 0 0 long
 
+some_torn : (n : ℕ) (old new : List ℕ) → 1 ≤ length old → Torn 1 n old new → 1 ≤ length new
+some_torn n old new some t = let e : length (take 1 new) ≡ length (take 1 old) = ap length t.before in by new e
+  where
+    by : (new : List ℕ) → length (take 1 new) ≡ length (take 1 old) → 1 ≤ length new
+    by [] e = absurd (none old some e)
+      where
+        none : (old : List ℕ) → 1 ≤ length old → 0 ≡ length (take 1 old) → ⊥
+        none [] some e = let never : ⊥ = omega (arith, some) in never
+        none (x ∷ old) some e = let never : ⊥ = omega (arith, e) in never
+    by (x ∷ new) e = omega arith
+
 first_torn : (n : ℕ) (old new : List ℕ) → Torn 1 n old new → get_or new 0 0 ≡ get_or old 0 0
 first_torn n old new t = sym (first_of_take new) ∙ ap (λ (l : List ℕ). get_or l 0 0) t.before ∙ first_of_take old
 
@@ -42,17 +53,18 @@ drop_one x n = let e : 1 + n ≡ suc n = omega arith in rw e (drop_none n)
 
 module _ (slot : Slot) (o : Held) (some : 1 ≤ length (slot_of slot o.slots)) where
   at_rest : (p : Held) → p ≡ o → Filling slot o p
-  at_rest p e = rw e (record { beside = refl; other_same = refl; first_same = refl })
+  at_rest p e = rw e (record { beside = refl; other_same = refl; first_same = refl; some = some })
 
   pub filling_cut : (p : Held) → (p ≡ o) ⊎ Changes slot (Cut 1) o p → Filling slot o p
   filling_cut p (inl e) = at_rest p e
-  filling_cut p (inr c) = record { beside = c.beside; other_same = other_stays slot (Cut 1) o p c; first_same = first_cut (slot_of slot o.slots) (slot_of slot p.slots) some c.there }
+  filling_cut p (inr c) = record { beside = c.beside; other_same = other_stays slot (Cut 1) o p c; first_same = first_cut (slot_of slot o.slots) (slot_of slot p.slots) some c.there; some = let s = c.there.no_shorter in omega (arith, s) }
 
   pub filling_more : (n : ℕ) (q p : Held) → Filling slot o q → Changes slot (Torn 1 n) q p → Filling slot o p
   filling_more n q p f c = record {
     beside = c.beside ∙ f.beside;
     other_same = other_stays slot (Torn 1 n) q p c ∙ f.other_same;
     first_same = first_torn n (slot_of slot q.slots) (slot_of slot p.slots) c.there ∙ f.first_same;
+    some = some_torn n (slot_of slot q.slots) (slot_of slot p.slots) f.some c.there;
   }
 
 module _ {D : Type 0} (state : D → SiteState) (possible : D → ℕ → Held → Type 0) (slot : Slot) (bytes : List ℕ) (o : Held) (some : 1 ≤ length (slot_of slot o.slots)) where
@@ -122,9 +134,13 @@ head_split (x ∷ xs) e = (xs, ap (λ (n : ℕ). n ∷ xs) e)
 pub is_one : (P : Type 0) (n : ℕ) → (n ≡ 1 → P) → (n ≢ 1 → P) → P
 is_one P n yes-one not-one = elim (eqb n 1) as (λ b. eqb n 1 ≡ b → P) [ true ↦ λ e. yes-one (eqb-true n 1 e) | false ↦ λ e. not-one (eqb-false n 1 e) ] refl
 
+-- a slot with another byte first
+closed_at : (xs : List ℕ) (n : ℕ) (rest : List ℕ) → xs ≡ n ∷ rest → n ≢ 1 → IsClosed xs
+closed_at xs n rest is none = rw is (record { some = omega arith; dead = none })
+
 module _ (t : Slot) (bytes : List ℕ) (o : Held) (dead : get_or (slot_of t o.slots) 0 0 ≢ 1) where
   pub turn_filling : (p : Held) → Filling t o p → MidTurn t bytes o p
-  turn_filling p f = record { beside = f.beside; there = inl (λ e. dead (sym f.first_same ∙ e), f.other_same) }
+  turn_filling p f = record { beside = f.beside; there = inl (record { some = f.some; dead = λ e. dead (sym f.first_same ∙ e) }, f.other_same) }
 
   module _ (n : Held) (beside : n.history ≡ o.history) (other_same : slot_of (other t) n.slots ≡ slot_of (other t) o.slots) (there : slot_of t n.slots ≡ get_or (slot_of t o.slots) 0 0 ∷ bytes) where
     pub turn_opening : (p : Held) → (p ≡ n) ⊎ Changes t (Torn 0 1) n p → MidTurn t bytes o p
@@ -132,7 +148,7 @@ module _ (t : Slot) (bytes : List ℕ) (o : Held) (dead : get_or (slot_of t o.sl
         let same : slot_of t p.slots ≡ get_or (slot_of t o.slots) 0 0 ∷ bytes = ap (λ (h : Held). slot_of t h.slots) e ∙ there in
         record {
           beside = ap (λ (h : Held). h.history) e ∙ beside;
-          there = inl (λ one. dead (sym (ap (λ (l : List ℕ). get_or l 0 0) same) ∙ one), ap (λ (h : Held). slot_of (other t) h.slots) e ∙ other_same);
+          there = inl (closed_at (slot_of t p.slots) (get_or (slot_of t o.slots) 0 0) bytes same dead, ap (λ (h : Held). slot_of (other t) h.slots) e ∙ other_same);
         }
     turn_opening p (inr c) =
         let torn : Torn 0 1 (get_or (slot_of t o.slots) 0 0 ∷ bytes) (slot_of t p.slots) = subst (λ (l : List ℕ). Torn 0 1 l (slot_of t p.slots)) there c.there in
@@ -140,7 +156,7 @@ module _ (t : Slot) (bytes : List ℕ) (o : Held) (dead : get_or (slot_of t o.sl
         let others : slot_of (other t) p.slots ≡ slot_of (other t) o.slots = other_stays t (Torn 0 1) n p c ∙ other_same in
         is_one (MidTurn t bytes o p) (get_or (slot_of t p.slots) 0 0)
         (λ one. record { beside = c.beside ∙ beside; there = inr (is ∙ ap (λ (x : ℕ). x ∷ bytes) one, inl others) })
-        (λ none. record { beside = c.beside ∙ beside; there = inl (none, others) })
+        (λ none. record { beside = c.beside ∙ beside; there = inl (closed_at (slot_of t p.slots) (get_or (slot_of t p.slots) 0 0) bytes is none, others) })
 
     abbrev pub opened_held : Held
     opened_held = with_bytes t (patched 0 (1 ∷ []) (slot_of t n.slots)) n
@@ -168,7 +184,7 @@ module _ (t : Slot) (bytes : List ℕ) (o : Held) (live : get_or (slot_of (other
       let is : slot_of (other t) p.slots ≡ get_or (slot_of (other t) p.slots) 0 0 ∷ split.0 = torn_gate [] 1 split.0 (slot_of (other t) p.slots) torn in
       is_one (MidTurn t bytes o p) (get_or (slot_of (other t) p.slots) 0 0)
       (λ one. record { beside = c.beside ∙ beside; there = inr (mine ∙ there, inl (is ∙ ap (λ (x : ℕ). x ∷ split.0) one ∙ sym split.1)) })
-      (λ none. record { beside = c.beside ∙ beside; there = inr (mine ∙ there, inr none) })
+      (λ none. record { beside = c.beside ∙ beside; there = inr (mine ∙ there, inr (closed_at (slot_of (other t) p.slots) (get_or (slot_of (other t) p.slots) 0 0) split.0 is none)) })
 
   abbrev pub last_held : Held
   last_held = with_bytes (other t) (patched 0 (0 ∷ []) (slot_of (other t) n.slots)) n

@@ -97,6 +97,11 @@ pub data Reads : Slots → List Placed → Option (Slot × ℕ) → Type 0 where
 abbrev pub entries_of : List Placed → List Entry
 entries_of placed = map (λ p. p.1) placed
 
+-- no slot is without bytes
+pub record HaveBytes (slots : Slots) : Type 0 where
+  pub first : 1 ≤ length slots.first
+  pub second : 1 ≤ length slots.second
+
 -- the slots are undamaged, and have these entries
 pub record Gives (slots : Slots) (entries : List Entry) : Type 0 where
   pub placed : List Placed

@@ -10,7 +10,7 @@ use Rattle.commit_journal.specs.declared.head.Survey.{Survey}
 use Rattle.commit_journal.specs.declared.head.Head.TheVariants.{Dead, Faulty, Live}
 use Rattle.commit_journal.specs.declared.journal.Journal.{Journal}
 use Rattle.commit_journal.specs.declared.opening.Opened.{Opened}
-use Rattle.commit_journal.specs.Layout.{Placed, Reads, entries_of, head_of}
+use Rattle.commit_journal.specs.Layout.{HaveBytes, Placed, Reads, entries_of, head_of}
 use Rattle.commit_journal.specs.Resting.{AtRest}
 
 -- the entries and the first damaged place of the slots; where there is none, a journal at rest
@@ -38,11 +38,6 @@ pub record IsNew (j : Journal) : Type 0 where
   pub version : j.version ≡ 2
   pub generation : j.generation ≡ 1
   pub gate : j.gate ≡ 10
-
--- no slot is without bytes
-pub record HaveBytes (slots : Slots) : Type 0 where
-  pub first : 1 ≤ length slots.first
-  pub second : 1 ≤ length slots.second
 
 -- a live head has its bytes
 abbrev pub HeadFits : ℕ → Head → Type 0

@@ -12,7 +12,7 @@ use Rattle.journal_entries.specs.Spelling.{entry_bytes, IsEntry}
 use Rattle.journal_entries.specs.Bodies.{AllFollow, Body, beginning, behind_all}
 use Rattle.commit_journal.specs.declared.head.Head.TheVariants.{Dead, Live}
 use Rattle.commit_journal.specs.declared.journal.Journal.{Journal}
-use Rattle.commit_journal.specs.Layout.{Placed, entries_of, head_of, Outcome, Batches, Gives}
+use Rattle.commit_journal.specs.Layout.{Placed, entries_of, head_of, Outcome, Batches, Gives, HaveBytes}
 
 -- These bytes are a slot up to a gate: whatever batches follow, behind their entries come those.
 pub record IsFront (version generation : ℕ) (front : List ℕ) (placed : List Placed) (s : Standing) : Type 0 where
@@ -91,9 +91,11 @@ pub record HasSameEntries (old new : Journal) : Type 0 where
   pub standing : new.standing ≡ old.standing
   pub staged : new.staged.items ≡ old.staged.items
 
--- what a crash in a flush leaves: the flushed entries, or these and the whole tail; the rest stays
+-- what a crash in a flush leaves: the flushed entries, or these and the whole tail; the rest stays, and no slot is
+-- without bytes
 pub record MidFlush (o : Held) (flushed tail : List Entry) (p : Held) : Type 0 where
   pub beside : p.history ≡ o.history
+  pub bytes : HaveBytes p.slots
   pub gives : Gives p.slots flushed ⊎ Gives p.slots (flushed ++ tail)
 
 -- a journal at rest over a certain disk

@@ -10,13 +10,14 @@ use Rattle.outside.specs.Sites.{SiteState}
 use Rattle.journal_entries.specs.declared.entry.Entry.{Entry}
 use Rattle.journal_entries.specs.Spelling.{entry_bytes}
 use Rattle.commit_journal.specs.declared.journal.Journal.{Journal}
-use Rattle.commit_journal.specs.Layout.{Gives}
+use Rattle.commit_journal.specs.Layout.{Gives, HaveBytes}
 
 -- while a slot is filled behind its first byte
 pub record Filling (slot : Slot) (o p : Held) : Type 0 where
   pub beside : p.history ≡ o.history
   pub other_same : slot_of (other slot) p.slots ≡ slot_of (other slot) o.slots
   pub first_same : slice_index (slot_of slot p.slots) 0 ≡ slice_index (slot_of slot o.slots) 0
+  pub some : 1 ≤ length (slot_of slot p.slots)
 
 pub record Filled {D : Type 0} (state : D → SiteState) (possible : D → ℕ → Held → Type 0) (d : D) (slot : Slot)
     (bytes : List ℕ) (o : Held) : Type 0 where
@@ -30,12 +31,17 @@ pub record Filled {D : Type 0} (state : D → SiteState) (possible : D → ℕ �
 abbrev pub IsAsBefore : Slot → Held → Held → Type 0
 IsAsBefore slot o p = slot_of slot p.slots ≡ slot_of slot o.slots
 
+-- it has a byte, and isn't live
+pub record IsClosed (bytes : List ℕ) : Type 0 where
+  pub some : 1 ≤ length bytes
+  pub dead : slice_index bytes 0 ≢ 1
+
 -- The new slot isn't live and the old one is as it was; or the new one is whole, and the old one as it was or not live.
 pub record MidTurn (target : Slot) (bytes : List ℕ) (o p : Held) : Type 0 where
   pub beside : p.history ≡ o.history
-  pub there : ((slice_index (slot_of target p.slots) 0 ≢ 1) × IsAsBefore (other target) o p)
+  pub there : (IsClosed (slot_of target p.slots) × IsAsBefore (other target) o p)
       ⊎ ((slot_of target p.slots ≡ 1 ∷ bytes)
-      × (IsAsBefore (other target) o p ⊎ (slice_index (slot_of (other target) p.slots) 0 ≢ 1)))
+      × (IsAsBefore (other target) o p ⊎ IsClosed (slot_of (other target) p.slots)))
 
 -- the slot is live with these bytes, and the other one is as it was
 pub record HasBegun {D : Type 0} (state : D → SiteState) (possible : D → ℕ → Held → Type 0) (d : D) (slot : Slot)
@@ -62,9 +68,10 @@ batch_of body = 1 ∷ (to_be_bytes w32 (length body) ++ body)
 abbrev pub slot_bytes : ℕ → List ℕ → List ℕ
 slot_bytes generation body = 2 ∷ (to_be_bytes w64 generation ++ (batch_of body ++ 0 ∷ []))
 
--- the old entries count, or the new ones
+-- the old entries count, or the new ones; and no slot is without bytes
 pub record MidRotation (o : Held) (entries others : List Entry) (p : Held) : Type 0 where
   pub beside : p.history ≡ o.history
+  pub bytes : HaveBytes p.slots
   pub gives : Gives p.slots entries ⊎ Gives p.slots others
 
 -- the entries are too many for one batch, or no generation is left

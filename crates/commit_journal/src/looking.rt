@@ -4,9 +4,9 @@ ghost use Rattle.std.specs.Prelude.{◌≡◌, ◌≤◌, ℕ, [], length, None,
 ghost use Rattle.outside.specs.Calls.{Certain, Leaves, Rests};
 ghost use Rattle.outside.specs.Holding.{Held, slot_of};
 ghost use Rattle.commit_journal.specs.Causes.{OpenHasCause};
-ghost use Rattle.commit_journal.specs.Layout.{Reads, entries_of};
+ghost use Rattle.commit_journal.specs.Layout.{entries_of, HaveBytes, Reads};
 ghost use Rattle.commit_journal.specs.Looking.{BeginsWith, LooksAt, SlotsShow};
-ghost use Rattle.commit_journal.specs.Opening.{HaveBytes, Keeps};
+ghost use Rattle.commit_journal.specs.Opening.{Keeps};
 ghost use Rattle.commit_journal.specs.Resting.{AtRest};
 
 use crate::fault::OpenError;

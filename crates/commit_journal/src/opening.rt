@@ -7,8 +7,8 @@ ghost use Rattle.commit_journal.specs.declared.fault.OpenError.TheVariants as op
 ghost use Rattle.outside.specs.Calls.{Certain, Leaves, Rests};
 ghost use Rattle.outside.specs.Holding.{Held, other, slot_of};
 ghost use Rattle.commit_journal.specs.declared.head.Head.TheVariants.{Dead, Live};
-ghost use Rattle.commit_journal.specs.Layout.{Batches, Beats, entries_of, head_of};
-ghost use Rattle.commit_journal.specs.Opening.{Finds, HaveBytes, HeadFits, IsBlank, IsNew, Keeps, Opens, Surveyed};
+ghost use Rattle.commit_journal.specs.Layout.{Batches, Beats, entries_of, HaveBytes, head_of};
+ghost use Rattle.commit_journal.specs.Opening.{Finds, HeadFits, IsBlank, IsNew, Keeps, Opens, Surveyed};
 
 use crate::fault::OpenError;
 use crate::head::{Head, Survey};

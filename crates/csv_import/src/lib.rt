@@ -6,6 +6,3 @@ pub mod inserts;
 pub mod records;
 
 pub use inserts::read_inserts;
-
-#[cfg(test)]
-mod tests;

@@ -5,7 +5,7 @@ use std::io;
 use thiserror::Error;
 
 /// Why nothing is run.
-#[derive(Debug, Drop, Error)]
+#[derive(Clone, Copy, Debug, Error)]
 pub enum DrillError {
     /// The line with this number, from 1, plans nothing that there is, or what it plans can't be.
     #[error("line {0} isn't understood")]

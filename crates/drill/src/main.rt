@@ -9,6 +9,7 @@
 mod backing;
 mod error;
 mod joined;
+mod output;
 mod plan;
 mod program;
 mod script;
@@ -17,13 +18,14 @@ mod stage;
 mod telling;
 
 use error::DrillError;
+use output::Output;
 use script::Script;
 use slots::tell_slots;
 use stage::Stage;
 use std::alloc::Global;
 use std::io::{Read, Write};
 use std::process::ExitCode;
-use telling::told;
+use telling::tell_all;
 
 /// The status where nothing was run.
 const NOT_RUN: u8 = 99;
@@ -41,24 +43,23 @@ fn main(rt: HostRuntime) -> ExitCode {
 fn run(rt: &HostRuntime) -> Result<u8, DrillError> {
     let mut bytes = Vec::new(rt.alloc());
     rt.stdin().read_to_end(&mut bytes)?;
-    let (status, text) = drilled(rt.alloc(), bytes.as_slice())?;
-    rt.stdout().write_all(text.as_slice())?;
+    let mut out = Output::new(rt.alloc());
+    let status = drilled(rt.alloc(), bytes.as_slice(), &mut out)?;
+    out.check()?;
+    rt.stdout().write_all(out.bytes())?;
     Ok(status)
 }
 
 // The status of the script's run, and what is told of it.
-fn drilled(alloc: Global, bytes: &[u8]) -> Result<(u8, Vec<u8>), DrillError> {
+fn drilled(alloc: Global, bytes: &[u8], out: &mut Output) -> Result<u8, DrillError> {
     let script = Script::read(alloc, bytes)?;
     let mut stage = Stage::new(alloc)?;
     stage.set_up(alloc, &script)?;
     let status = stage.run_all(alloc, &script)?;
-    let mut text = told(
-        alloc,
-        stage.replies.as_slice(),
-        stage.site.history().as_slice(),
-    )?;
+    let history = stage.site.history().as_slice();
+    tell_all(alloc, stage.replies.as_slice(), history, out)?;
     if stage.slots {
-        tell_slots(alloc, &mut stage.site, &mut text)?;
+        tell_slots(alloc, &mut stage.site, out)?;
     }
-    Ok((status, text))
+    Ok(status)
 }

@@ -55,34 +55,15 @@ impl<'a> Plan<'a> {
             "refuse" => parse_refuse(rest),
             "foreign" => parse_foreign(rest),
             "before" => Some(Plan::Before(rest)),
-            "pieces" => {
-                let size = rest.parse::<usize>().ok()?;
-                Some(Plan::Pieces(size))
-            }
-            "source" => {
-                let call = parse_call(rest)?;
-                Some(Plan::Source(call))
-            }
-            "sink" => {
-                let call = parse_call(rest)?;
-                Some(Plan::Sink(call))
-            }
+            "pieces" => parse_pieces(rest),
+            "source" | "sink" => parse_stream(word, rest),
             "settings" => Some(Plan::Settings(rest)),
             "words" => Some(Plan::Words(rest)),
             "joined" => Some(Plan::Joined),
             "slots" => Some(Plan::Slots),
             "restart" => Some(Plan::Restart),
             "crash" => parse_crash(rest),
-            "slot" => {
-                let (slot, bytes) = parse_slot(rest)?;
-                Some(Plan::Slot(slot, bytes))
-            }
-            "damage" => parse_damage(rest),
-            "shorten" => {
-                let (slot, length) = parse_slot(rest)?;
-                let length = length.parse::<usize>().ok()?;
-                Some(Plan::Shorten(slot, length))
-            }
+            "slot" | "damage" | "shorten" => parse_change(word, rest),
             "note" => Some(Plan::Note),
             _ => None,
         }
@@ -108,6 +89,20 @@ fn parse_refuse(text: &str) -> Option<Plan<'_>> {
     let kind = parse_kind(kind)?;
     let call = parse_call(number)?;
     Some(Plan::Refuse(kind, call))
+}
+
+fn parse_pieces(text: &str) -> Option<Plan<'_>> {
+    let size = text.parse::<usize>().ok()?;
+    Some(Plan::Pieces(size))
+}
+
+// A call of the source or of the sink that fails.
+fn parse_stream<'a>(word: &str, text: &'a str) -> Option<Plan<'a>> {
+    let call = parse_call(text)?;
+    match word {
+        "source" => Some(Plan::Source(call)),
+        _ => Some(Plan::Sink(call)),
+    }
 }
 
 fn parse_foreign(text: &str) -> Option<Plan<'_>> {
@@ -148,11 +143,25 @@ fn parse_slot(text: &str) -> Option<(Slot, &str)> {
     }
 }
 
-fn parse_damage(text: &str) -> Option<Plan<'_>> {
+// A change of a slot.
+fn parse_change<'a>(word: &str, text: &'a str) -> Option<Plan<'a>> {
     let (slot, rest) = parse_slot(text)?;
-    let (place, bytes) = first_word(rest);
+    match word {
+        "slot" => Some(Plan::Slot(slot, rest)),
+        "damage" => parse_damage(slot, rest),
+        _ => parse_shorten(slot, rest),
+    }
+}
+
+fn parse_damage(slot: Slot, text: &str) -> Option<Plan<'_>> {
+    let (place, bytes) = first_word(text);
     let place = place.parse::<usize>().ok()?;
     Some(Plan::Damage(slot, place, bytes))
+}
+
+fn parse_shorten(slot: Slot, text: &str) -> Option<Plan<'_>> {
+    let length = text.parse::<usize>().ok()?;
+    Some(Plan::Shorten(slot, length))
 }
 
 fn parse_kind(word: &str) -> Option<CallKind> {

@@ -1,7 +1,7 @@
 //! The program over objects in memory.
 
 use backing_gate::MemorySite;
-use outside::{MemorySink, MemorySource, ScriptClock};
+use outside::{Clock, MemorySink, MemorySource, ScriptClock, Sink, Site, Source};
 use session_cli::{Silent, top};
 use std::alloc::{AllocError, Global};
 
@@ -68,7 +68,7 @@ impl<'a> Program<'a> {
         let mut sink = MemorySink::new(alloc, self.piece, sink_fails);
         let mut clock = ScriptClock::new(Vec::new(alloc));
         let words = words_of(alloc, self.words)?;
-        let status = top(
+        let status = call(
             alloc,
             words.as_slice(),
             self.settings.as_bytes(),
@@ -76,7 +76,6 @@ impl<'a> Program<'a> {
             &mut sink,
             site,
             &mut clock,
-            &mut Silent,
         );
         Ok((status, sink))
     }
@@ -97,6 +96,29 @@ impl<'a> Program<'a> {
             }
         }
     }
+}
+
+// Calls the program over any objects. Its contract is long, and this passes none of it on: so the caller, which has objects
+// of known types, is proved without it.
+fn call<'a, S: Source, K: Sink, P: Site, C: Clock>(
+    alloc: Global,
+    words: &'a [&'a str],
+    settings: &[u8],
+    source: &mut S,
+    sink: &mut K,
+    site: &mut P,
+    clock: &mut C,
+) -> u8 {
+    top(
+        alloc,
+        words,
+        settings,
+        source,
+        sink,
+        site,
+        clock,
+        &mut Silent,
+    )
 }
 
 // How many calls take an input of this length.

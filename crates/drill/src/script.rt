@@ -57,7 +57,6 @@ impl Drop for Run {
 }
 
 /// A script: what it plans, and the program's runs.
-#[derive(Drop)]
 pub struct Script<'a> {
     /// The plans, in their order.
     pub plans: Vec<Planned<'a>>,
@@ -65,6 +64,16 @@ pub struct Script<'a> {
     pub runs: Vec<Run>,
     /// The last run.
     pub last: Run,
+}
+
+impl Drop for Script<'_> {
+    fn drop(self) {
+        let Self {
+            plans: _,
+            runs: _,
+            last: _,
+        } = self;
+    }
 }
 
 impl<'a> Script<'a> {

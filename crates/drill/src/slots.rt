@@ -1,6 +1,7 @@
 //! What the slots of the journal's disk hold: as text, and changed by hand.
 
 use crate::error::DrillError;
+use crate::output::Output;
 use crate::plan::Plan;
 use crate::script::Script;
 use backing_gate::MemorySite;
@@ -21,40 +22,40 @@ const WIDE: u64 = 32;
 pub fn tell_slots(
     alloc: Global,
     site: &mut MemorySite,
-    out: &mut Vec<u8>,
+    out: &mut Output,
 ) -> Result<(), AllocError> {
-    tell_slot(alloc, site, Slot::First, b"-- slot 0\n", out)?;
-    tell_slot(alloc, site, Slot::Second, b"-- slot 1\n", out)
+    out.put("-- slot 0\n");
+    tell_slot(alloc, site, Slot::First, out)?;
+    out.put("-- slot 1\n");
+    tell_slot(alloc, site, Slot::Second, out)
 }
 
 fn tell_slot(
     alloc: Global,
     site: &mut MemorySite,
     slot: Slot,
-    name: &[u8],
-    out: &mut Vec<u8>,
+    out: &mut Output,
 ) -> Result<(), AllocError> {
     let mut buf = vec![in alloc; 0u8; TOLD]?;
     let count = site.read_at(slot, 0, buf.as_mut_slice()).unwrap_or(0);
-    out.extend_from_slice(name)?;
     let mut place: u64 = 0;
     for byte in buf.iter().take(count) {
-        tell_byte(*byte, out)?;
+        tell_byte(*byte, out);
         place = place.saturating_add(1);
         if place % WIDE == 0 {
-            out.extend_from_slice(b"\n")?;
+            out.end_line();
         }
     }
     if place % WIDE != 0 {
-        out.extend_from_slice(b"\n")?;
+        out.end_line();
     }
     Ok(())
 }
 
-fn tell_byte(byte: u8, out: &mut Vec<u8>) -> Result<(), AllocError> {
+fn tell_byte(byte: u8, out: &mut Output) {
     let high = DIGITS[(byte / 16) as usize];
     let low = DIGITS[(byte % 16) as usize];
-    out.extend_from_slice(&[high, low])
+    out.put_bytes(&[high, low]);
 }
 
 /// The site with its slots changed as the script plans it of this run. Nothing is planned for it, and it is at its first

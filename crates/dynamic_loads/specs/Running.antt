@@ -1,5 +1,5 @@
--- Statements in the cache, with what they want loaded before. (TimesTen Cache User's Guide, "Dynamically loading a cache
--- instance".)
+-- Statements in the cache, with what they want loaded before. (TimesTen Cache User's Guide, "Dynamically loading a
+-- cache instance".)
 
 use Rattle.std.specs.Prelude.{Ok}
 use Rattle.evaluator.specs.declared.change.Change.{Change}

@@ -19,8 +19,9 @@ use tier_journal::TierJournal;
 use tier_statements::{bank_fault, faulty};
 
 /// The instance that a statement wants of the writethrough group at a place is brought in: what is unsettled is applied
-/// at the bank first. Then the bank is asked for the instance that the wanted row is in, and it comes to the group where
-/// its root row is there and past the group's horizon, as the newest. It does all but find a root where there is none.
+/// at the bank first. Then the bank is asked for the instance that the wanted row is in, and it comes to the group
+/// where its root row is there and past the group's horizon, as the newest. It does all but find a root where there is
+/// none.
 ///
 /// The line ends early with the reply of a round that did; with 201 where the bank's call failed; with 202 where a call
 /// of the journal's disk did, after which the run is to end; or memory was wanting, which is also said where the place

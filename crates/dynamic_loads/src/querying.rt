@@ -21,13 +21,13 @@ use stored_tier::tier::Tier;
 use tier_base::SessionId;
 use tier_journal::TierJournal;
 
-/// SELECT of an open session, without GROUP BY. In the cache the instance that it wants is loaded first, where its group
-/// loads on demand and it isn't shown; then it is answered over what the session sees, and the instances that it selects
-/// are used. At level 3, and where a table isn't cached, it is answered at the backing database.
+/// SELECT of an open session, without GROUP BY. In the cache the instance that it wants is loaded first, where its
+/// group loads on demand and it isn't shown; then it is answered over what the session sees, and the instances that it
+/// selects are used. At level 3, and where a table isn't cached, it is answered at the backing database.
 ///
-/// The refusal is the first broken rule of its names, then as the evaluator tells it. The line ends early with the reply
-/// of a load that did; it is 201 where the bank's call failed; or memory was wanting. (TimesTen SQL Reference, "SELECT";
-/// TimesTen Cache User's Guide, "Dynamically loading a cache instance", "Setting a passthrough level".)
+/// The refusal is the first broken rule of its names, then as the evaluator tells it. The line ends early with the
+/// reply of a load that did; it is 201 where the bank's call failed; or memory was wanting. (TimesTen SQL Reference,
+/// "SELECT"; TimesTen Cache User's Guide, "Dynamically loading a cache instance", "Setting a passthrough level".)
 pub fn run_query<P: Site>(
     tier: &mut Tier,
     alloc: Global,

@@ -83,8 +83,8 @@ fn is_known(tier: &Tier, tree: &Tree, tables: &[Rows]) -> bool
     tier.verified && are_fit(&tier.schema, tree, tables)
 }
 
-// These rows come to the writethrough group at a place. Where it is known that they fit, and sessions might read before,
-// it is found out whether they still may.
+// These rows come to the writethrough group at a place. Where it is known that they fit, and sessions might read
+// before, it is found out whether they still may.
 fn put_rows(
     tier: &mut Tier,
     alloc: Global,

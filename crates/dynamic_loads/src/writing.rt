@@ -28,11 +28,11 @@ use tier_statements::Route;
 /// its group loads on demand and it isn't shown; then its operations stand behind the session's own. A write on a table
 /// of no writethrough group is passed on, and commits by itself at the backing database.
 ///
-/// The refusal is the first broken rule: 102, 103; 118, 104, 105; 121, 110, 117; then as `write_cached` and `pass_write`
-/// tell. The line ends early with the reply of a load that did; a passed-on write whose call failed leaves its ticket in
-/// doubt; or memory was wanting. (TimesTen SQL Reference, "INSERT", "UPDATE", "DELETE"; TimesTen Cache User's Guide,
-/// "Dynamically loading a cache instance", "Setting a passthrough level"; the codes and their order are this project's
-/// rule.)
+/// The refusal is the first broken rule: 102, 103; 118, 104, 105; 121, 110, 117; then as `write_cached` and
+/// `pass_write` tell. The line ends early with the reply of a load that did; a passed-on write whose call failed leaves
+/// its ticket in doubt; or memory was wanting. (TimesTen SQL Reference, "INSERT", "UPDATE", "DELETE"; TimesTen Cache
+/// User's Guide, "Dynamically loading a cache instance", "Setting a passthrough level"; the codes and their order are
+/// this project's rule.)
 pub fn run_write<P: Site>(
     tier: &mut Tier,
     alloc: Global,

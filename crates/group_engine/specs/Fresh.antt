@@ -1,5 +1,5 @@
--- What is read of the bank for a refresh. (TimesTen Cache User's Guide, "Automatically refreshing a cache group"; that all
--- groups of a refresh have one position is this project's rule.)
+-- What is read of the bank for a refresh. (TimesTen Cache User's Guide, "Automatically refreshing a cache group"; that
+-- all groups of a refresh have one position is this project's rule.)
 
 use Rattle.std.specs.Prelude.{Result, Ok, Err}
 use Rattle.outside.specs.Sites.{SiteState}

@@ -1,5 +1,5 @@
--- What a load of a READONLY group makes, behind the note that its refresh was tried. (TimesTen SQL Reference, "LOAD CACHE
--- GROUP"; what it does to STATE and flags is this project's rule.)
+-- What a load of a READONLY group makes, behind the note that its refresh was tried. (TimesTen SQL Reference, "LOAD
+-- CACHE GROUP"; what it does to STATE and flags is this project's rule.)
 
 use Rattle.std.specs.Prelude.{◌≡◌, ℕ, List, None, Some, true, Option, Result, slice_get}
 use Rattle.outside.specs.declared.fault.BankError.{BankError}
@@ -30,7 +30,8 @@ pub record ReadsWhole (place : ℕ) (g : Group) (w w' : World) (reply : Reply) :
   pub mid : World
   pub call : BankCall (TellsPosition told) w mid
   pub tier : mid.tier ≡ w.tier
-  pub goes_on : FollowsAt told (λ n. Settles (whole_target place g) (whole_answer (whole_target place g) n)) mid w' reply
+  pub goes_on :
+      FollowsAt told (λ n. Settles (whole_target place g) (whole_answer (whole_target place g) n)) mid w' reply
 
 -- so it is in each world at the site, of a READONLY group that is refreshed with these
 abbrev pub LoadsWhole : {D : Type 0} → (D → SiteState) → (D → ℕ → Held → Type 0) → Stored → Stored

@@ -12,7 +12,8 @@ use Rattle.stored_tier.specs.Performing.{Performs, StandsFor}
 
 -- this tier stands for a world in which the refresh of the set of an interval is noted as tried, where the other stood
 abbrev pub IsNoted : ℕ → Stored → Stored → Type 0
-IsNoted interval t noted = (w : World) → StandsFor t w → StandsFor noted (record w { tier = refresh_tried interval w.tier })
+IsNoted interval t noted = (w : World) → StandsFor t w
+    → StandsFor noted (record w { tier = refresh_tried interval w.tier })
 
 -- what is done behind that note is, with it, a refresh of the set
 abbrev pub RefreshesNoted : ℕ → Stored → Stored → SiteState → SiteState → Option Reply → Type 0

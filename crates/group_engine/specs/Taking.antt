@@ -64,8 +64,8 @@ pub record IsSameButRoom (old new : Stored) : Type 0 where
   pub catalog : new.catalog ≡ old.catalog
   pub verified : new.verified ≡ old.verified
 
--- The writethrough group at a place has the instances of these tables that match, beside its own, and is loaded. The reply
--- tells how many came, or how many match.
+-- The writethrough group at a place has the instances of these tables that match, beside its own, and is loaded. The
+-- reply tells how many came, or how many match.
 pub record TakesIn (old new : Stored) (place : ℕ) (which : ResolvedWhich) (refreshes : Bool) (s : TableState)
     (reply : Reply) : Type 0 where
   pub group : Group
@@ -133,7 +133,8 @@ TakesAtPosition true x n w w' reply =
 abbrev pub ReadsDynamic : Bool → Target → Part
 ReadsDynamic refreshes x = Reads as_it_was (TakesAtPosition refreshes x)
 
--- so it is of a READONLY group, explicit or dynamic; the note that a refresh of its set is tried stands, or comes with it
+-- so it is of a READONLY group, explicit or dynamic; the note that a refresh of its set is tried stands, or comes with
+-- it
 abbrev pub ShowsAtPosition : Bool → Target → ℕ → Part
 ShowsAtPosition refreshes x n w w' reply =
     MatchBool (is_explicit x.group) (Settles x (whole_answer x n) w w' reply) (TakesAtPosition refreshes x n w w' reply)

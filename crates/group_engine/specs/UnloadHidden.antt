@@ -1,5 +1,5 @@
--- UNLOAD of a READONLY group that hides instances. (TimesTen SQL Reference, "UNLOAD CACHE GROUP"; that those which aging
--- hides leave too is this project's rule.)
+-- UNLOAD of a READONLY group that hides instances. (TimesTen SQL Reference, "UNLOAD CACHE GROUP"; that those which
+-- aging hides leave too is this project's rule.)
 
 use Rattle.std.specs.Prelude.{◌≡◌, ℕ, List, [], ◌∷◌, Bool, false, true, Option, Some, None, set, slice_get}
 use Rattle.std.specs.FinMap.{remove}

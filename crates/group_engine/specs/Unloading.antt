@@ -112,7 +112,8 @@ pub record OverflowsIn (place : ℕ) (which : ResolvedWhich) (stores : List Kept
 
 -- the group at a place has the flag cleared, where all of it left
 abbrev pub flagged : Bool → ℕ → List Group → List Group
-flagged all place groups = if all then changed_from (alone place) (λ g. record g { loaded = false }) 0 groups else groups
+flagged all place groups = if all then changed_from (alone place) (λ g. record g { loaded = false }) 0 groups
+    else groups
 
 -- Instances left the store of the group at a place so, and nothing else changed but its flag. Where it is noted that
 -- sessions may read over the stored rows, they may.

@@ -46,9 +46,9 @@ use tier_journal::TierJournal;
 use tier_statements::{bank_fault, faulty};
 
 /// The instance that a statement wants of the dynamic READONLY group at a place is brought in with its whole set, which
-/// is refreshed: by what changed since its position, where it has one since which the bank tells that, and else from one
-/// snapshot. PAUSED becomes ON, which is flushed. Where the root that the wanted row is reached
-/// from isn't there, isn't in the view, or isn't past the horizon, it does all but gain an instance.
+/// is refreshed: by what changed since its position, where it has one since which the bank tells that, and else from
+/// one snapshot. PAUSED becomes ON, which is flushed. Where the root that the wanted row is reached from isn't there,
+/// isn't in the view, or isn't past the horizon, it does all but gain an instance.
 ///
 /// The line ends early with 201 where the bank's call failed; with 119 where the journal has no room; with 202 where a
 /// call of its disk failed, after which the run is to end; or memory was wanting, which is also said where the place
@@ -137,9 +137,9 @@ fn gains_with_set(group: &KeptGroup) -> bool
     is_read_only(group) && group.def.dynamic
 }
 
-// The same where it is noted that a refresh of the set of this interval is tried; the group's STATE becomes this one. The
-// set is refreshed by what changed since its position, where it has one since which the bank tells that; else from one
-// snapshot.
+// The same where it is noted that a refresh of the set of this interval is tried; the group's STATE becomes this one.
+// The set is refreshed by what changed since its position, where it has one since which the bank tells that; else from
+// one snapshot.
 fn bring_joined<P: Site>(
     tier: &mut Tier,
     alloc: Global,

@@ -282,7 +282,8 @@ fn is_only_read(kind: GroupKind) -> bool
 
 // The session opened earliest that has written on a table of the group, but that of the number.
 fn find_writer<'a>(group: &KeptGroup, sessions: &'a [Session], id: SessionId) -> Option<&'a Session>
-    ensures { option_copied result ≡ find (λ s. not (has_id id (seen_of s)) && writes_on (group_seen group.now) s.ops.items)
+    ensures { option_copied result
+        ≡ find (λ s. not (has_id id (seen_of s)) && writes_on (group_seen group.now) s.ops.items)
         sessions.now }
 {
     sessions.iter().find(|session| session.id.0 != id.0 && writes_on(group, session.ops.as_slice()))

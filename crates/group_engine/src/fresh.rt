@@ -49,8 +49,9 @@ impl Fresh {
     }
 }
 
-/// The tables of the chosen groups are read from one snapshot, and stores are made that show of those that are loaded, or
-/// are so from now on, the views past the horizon, and of dynamic ones the instances that they have. Nothing changes.
+/// The tables of the chosen groups are read from one snapshot, and stores are made that show of those that are loaded,
+/// or are so from now on, the views past the horizon, and of dynamic ones the instances that they have. Nothing
+/// changes.
 ///
 /// It is `Failed` where the call failed, and `Memory` where memory was wanting.
 pub fn read_fresh<P: Site>(
@@ -100,7 +101,8 @@ pub fn show_fresh(tier: &mut Tier, chosen: Chosen, fresh: Fresh)
 }
 
 /// The set of an interval is refreshed, which is noted first: by what changed since its position where its groups go by
-/// changes and have one position, since which the bank tells them; else from one snapshot. It has an entry among the moments.
+/// changes and have one position, since which the bank tells them; else from one snapshot. It has an entry among the
+/// moments.
 ///
 /// It is `Failed` where the call failed, and `Memory` where memory was wanting.
 pub fn refresh_members<P: Site>(

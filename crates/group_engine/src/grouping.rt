@@ -16,7 +16,8 @@ use stored_tier::tier::Tier;
 use table_defs::{TableDef, copied_places};
 use tier_base::{Seq, TableId};
 
-// A group comes behind the others, with its store and its hidden rows. It fails for want of memory alone; all then stays.
+// A group comes behind the others, with its store and its hidden rows. It fails for want of memory alone; all then
+// stays.
 pub(crate) fn keep_group(
     tier: &mut Tier,
     alloc: Global,
@@ -79,8 +80,8 @@ fn keep_store(tier: &mut Tier, alloc: Global, store: Store) -> Result<(), AllocE
 
 /// A store of a tree, without rows.
 ///
-/// It fails for want of memory. Where a child's foreign key hadn't as many columns as its parent's key, as no schema has
-/// it, memory would be told wanting.
+/// It fails for want of memory. Where a child's foreign key hadn't as many columns as its parent's key, as no schema
+/// has it, memory would be told wanting.
 pub fn bare_store(alloc: Global, schema: &[TableDef], tree: &Tree) -> Result<Store, AllocError>
     ensures { IfOk result (IsBareStore schema.now tree.now) }
 {

@@ -30,9 +30,9 @@ use stored_tier::tier::Tier;
 use tier_journal::TierJournal;
 use tier_statements::{bank_fault, done};
 
-/// LOAD of the READONLY group that is aimed at, or REFRESH, at one position with its set; PAUSED becomes ON. An explicit
-/// one shows its view whole, and the reply tells how many instances it shows; `load_dynamic` says what a dynamic one
-/// does. What changes of STATE and flag is flushed.
+/// LOAD of the READONLY group that is aimed at, or REFRESH, at one position with its set; PAUSED becomes ON. An
+/// explicit one shows its view whole, and the reply tells how many instances it shows; `load_dynamic` says what a
+/// dynamic one does. What changes of STATE and flag is flushed.
 ///
 /// It is 120 of a dynamic group's condition; 201 where the bank's call failed, 119 where the journal has no room, 202
 /// where a call of its disk failed; or memory was wanting.

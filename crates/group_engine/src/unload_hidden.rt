@@ -28,9 +28,9 @@ use stored_tier::tier::Tier;
 use tier_journal::TierJournal;
 use tier_statements::done;
 
-/// The instances that match leave of the READONLY group at a place, where it hides some, and those of them that it hides;
-/// or 120 of the condition on a root row that is shown, then 119. The reply tells how many were shown. Else, and where
-/// memory was wanting, want of memory is told, and all stays. No session writes in it, and it has no flag.
+/// The instances that match leave of the READONLY group at a place, where it hides some, and those of them that it
+/// hides; or 120 of the condition on a root row that is shown, then 119. The reply tells how many were shown. Else, and
+/// where memory was wanting, want of memory is told, and all stays. No session writes in it, and it has no flag.
 pub(crate) fn unload_hidden<P: Site>(
     tier: &mut Tier,
     alloc: Global,
@@ -77,8 +77,8 @@ fn hides_some(tier: &Tier, place: usize) -> bool
     }
 }
 
-/// The instances that match leave the store of the group, and the hidden root rows that do; how many were shown. It fails
-/// for want of memory alone, and all then stays.
+/// The instances that match leave the store of the group, and the hidden root rows that do; how many were shown. It
+/// fails for want of memory alone, and all then stays.
 pub(crate) fn cut_hiding(tier: &mut Tier, alloc: Global, aim: &Aim) -> Result<usize, AllocError>
     ensures ok { IfOk result (IsCutHiding tier.old tier.new aim.now) }
     ensures err { OnErr result (KeepsGroups tier.old tier.new) }

@@ -1,4 +1,5 @@
-//! Instances leave a group. Where sessions might read over the stored rows before, it is found out whether they still may.
+//! Instances leave a group. Where sessions might read over the stored rows before, it is found out whether they still
+//! may.
 
 ghost use Rattle.std.specs.Prelude.{◌≡◌, IfOk, OnErr, slice_get, true};
 ghost use Rattle.group_catalog.specs.Catalogs.{groups_in};

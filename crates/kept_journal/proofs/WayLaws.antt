@@ -10,7 +10,7 @@ use Rattle.outside.specs.Sites.{SiteState}
 use Rattle.cache_tier.specs.Journals.{Journal, JournalEntry, Stretch, Way, passed_by}
 use Rattle.cache_tier.specs.WayPoints.{IsPoint, turned_at}
 use Rattle.cache_tier.specs.Worlds.{World}
-use Rattle.commit_journal.proofs.TailLaws.{rest_gives}
+use Rattle.commit_journal.proofs.TailLaws.{rest_bytes, rest_gives}
 use Rattle.tier_journal.specs.declared.journal.TierJournal.{TierJournal}
 use Rattle.tier_journal.specs.Keeping.{Keeps}
 use Rattle.tier_journal.specs.Leaving.{GivesEither, GivesEntries}
@@ -49,7 +49,10 @@ take_whole (x ∷ xs) = ap (λ l. x ∷ l) (take_whole xs)
 
 -- what is kept is given
 pub flushed_gives : (schema : List TableDef) (t : TierJournal) (slots : Slots) (j : Journal) → Keeps schema t slots j → GivesEntries schema slots j.flushed
-flushed_gives schema t slots j k = rest_gives t.journal slots (written_all schema j.flushed) (written_all schema j.tail) k.rests
+flushed_gives schema t slots j k = record {
+  gives = rest_gives t.journal slots (written_all schema j.flushed) (written_all schema j.tail) k.rests;
+  bytes = rest_bytes t.journal slots (written_all schema j.flushed) (written_all schema j.tail) k.rests;
+}
 
 -- the way says nothing of what is kept
 pub on_way : (schema : List TableDef) (t : TierJournal) (slots : Slots) (j : Journal) (way : Option Way) → Keeps schema t slots j → Keeps schema t slots (record j { way = way })

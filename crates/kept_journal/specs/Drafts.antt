@@ -48,7 +48,8 @@ IsPlaced (Some t) Full = Unit {0}
 
 -- a journal keeps what it kept
 pub record HasKept (old new : TierJournal) : Type 0 where
-  pub keeps : (schema : List TableDef) (slots : Slots) (j : Journal) → Keeps schema old slots j → Keeps schema new slots j
+  pub keeps : (schema : List TableDef) (slots : Slots) (j : Journal) → Keeps schema old slots j
+      → Keeps schema new slots j
   pub same : HasSame old new
 
 -- so it is where one is kept; and none stays none

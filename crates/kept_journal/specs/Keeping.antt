@@ -17,8 +17,8 @@ use Rattle.kept_journal.specs.declared.draft.Draft.{Draft}
 use Rattle.kept_journal.specs.Drafts.{IsDraftOf}
 use Rattle.kept_journal.specs.Leaving.{LeavesOnWay}
 
--- The journal has the world's entries, over a certain disk, in a slot that takes every number. Where a way is asked for, a
--- crash since it began leaves a point of it.
+-- The journal has the world's entries, over a certain disk, in a slot that takes every number. Where a way is asked
+-- for, a crash since it began leaves a point of it.
 pub record IsOver {D : Type 0} (state : D → SiteState) (possible : D → ℕ → Held → Type 0) (d : D) (t : TierJournal)
     (w : World) : Type 0 where
   pub there : Held

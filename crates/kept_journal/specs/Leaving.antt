@@ -15,8 +15,8 @@ pub record HasBecome (early schema : List TableDef) : Type 0 where
   pub more : List TableDef
   pub is : schema ≡ early ++ more
 
--- What is left is a point of the way: the slots give its entries, under a schema of the way, and the history is the front
--- of the present one that is so long.
+-- What is left is a point of the way: the slots give its entries, under a schema of the way, and the history is the
+-- front of the present one that is so long.
 pub record IsOnWay (schema : List TableDef) (way : Way) (flushed : List JournalEntry) (history : List Entry) (p : Held)
     : Type 0 where
   pub entries : List JournalEntry

@@ -1,4 +1,5 @@
--- The journal's other slot that is begun anew, in the worlds whose journal is kept over the disk. (This project's rule.)
+-- The journal's other slot that is begun anew, in the worlds whose journal is kept over the disk. (This project's
+-- rule.)
 
 use Rattle.std.specs.Prelude.{◌≡◌, ℕ, nat_lt, Bool, false, Option, Some, None}
 use Rattle.outside.specs.Holding.{Held}

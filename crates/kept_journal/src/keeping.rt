@@ -67,7 +67,8 @@ pub fn flush_draft<D: Disk>(
 }
 
 /// Notes the entry that was made ready, or flushes it with the tail before it where it is to be durable, where a
-/// journal is kept. The reply is `fault 202` where a call of the disk failed, and the run is to end. It takes no memory.
+/// journal is kept. The reply is `fault 202` where a call of the disk failed, and the run is to end. It takes no
+/// memory.
 pub fn record_draft<D: Disk>(
     alloc: Global,
     disk: &mut D,

@@ -61,7 +61,8 @@ impl Draft {
         }
     }
 
-    /// The number of a write that is passed on. One that isn't greater than those before it is taken for want of memory.
+    /// The number of a write that is passed on. One that isn't greater than those before it is taken for want of
+    /// memory.
     pub fn of_number(
         alloc: Global,
         journal: &mut Option<TierJournal>,

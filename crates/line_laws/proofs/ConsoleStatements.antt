@@ -13,7 +13,7 @@ use Rattle.table_state.specs.Operations.{applied_all, table_of}
 use Rattle.table_state.specs.Tables.{TableState}
 use Rattle.table_state.proofs.HistoryLaws.{state_of-append}
 use Rattle.outside.specs.Bank.{Grows}
-use Rattle.outside.specs.Console.{Writes, WritesForeign}
+use Rattle.outside.specs.Console.{IsDone, Writes, WritesForeign}
 use Rattle.outside.specs.Others.{AreOthers, Around, are_on_shared, is_shared}
 use Rattle.outside.specs.declared.site.Done.{Done as Wrote}
 use Rattle.outside.specs.declared.site.Done.TheVariants.{Rows, Broken}
@@ -87,14 +87,19 @@ leads_to h ops b n leaves is s e =
     let now : state_of (h ++ Foreign ops ∷ []) ≡ Some n = state_of-append h (Foreign ops ∷ []) ∙ ap (option_and_then (state_from (Foreign ops ∷ []))) leaves ∙ ap (λ o. option_and_then (state_from []) o) is in
     subst IsSome (sym now) refl
 
-module _ (writes : List Write) (w w' : World) (early : List Sealed) (stands : Stands w) (j : IsJournalled w early) (apart : IsUnshared w) (off : AreOffLive writes w) (changes : List Change) (seen : resolved_writes w.tier.schema writes ≡ Ok (map change_seen changes)) (tier : w'.tier ≡ w.tier) (journal : w'.journal ≡ w.journal) where
+-- what these changes do is on no table of a live writethrough group
+abbrev pub DoesOffLive : List Change → World → Type 0
+DoesOffLive changes w =
+    (ops : List Op) (rows : ℕ) (b s : TableState) → state_of w.history ≡ Some b → s.schema ≡ b.schema → IsDone changes ops rows s → are_off (live_tables (live_groups_of w.tier.groups)) ops ≡ true
+
+module _ (w w' : World) (early : List Sealed) (stands : Stands w) (j : IsJournalled w early) (apart : IsUnshared w) (changes : List Change) (off : DoesOffLive changes w) (tier : w'.tier ≡ w.tier) (journal : w'.journal ≡ w.journal) where
   came : (rows : ℕ) (before middle behind : List Entry) → AreOthers w.shared w.history before → Writes changes rows (w.history ++ before) middle → AreOthers w.shared middle behind → w'.history ≡ middle ++ behind → IsJournalledOn w' early
   came rows before middle behind came_before own came_behind history =
       let first = others_kept w early before w.tier j apart came_before (still_quiet w.tier) in
       let st = (others_go_on w before stands apart came_before).stands in
       let over = st.flow.stand.over in
       let done = own.done over.backing over.leaves in
-      let beside = off changes own.ops rows stands.flow.stand.over.backing over.backing seen stands.flow.stand.over.leaves (others_schema w.shared before w.history stands.flow.stand.over.backing over.backing stands.flow.stand.over.leaves came_before over.leaves) done in
+      let beside = off own.ops rows stands.flow.stand.over.backing over.backing stands.flow.stand.over.leaves (others_schema w.shared before w.history stands.flow.stand.over.backing over.backing stands.flow.stand.over.leaves came_before over.leaves) done in
       let base : World = record w { history = w.history ++ before; shared = own_tables own.ops } in
       let second = others_kept base first.now (Foreign own.ops ∷ []) w.tier (one_journalled (at_history (w.history ++ before) w) base first.now (record { tier = refl; history = refl; journal = refl }) first.is)
       (λ t e. sym (live_table w.tier.groups t) ∙ own_off (live_tables (live_groups_of w.tier.groups)) own.ops t beside e)
@@ -114,7 +119,7 @@ module _ (writes : List Write) (w w' : World) (early : List Sealed) (stands : St
       let last : World = at_history ((w.history ++ before) ++ behind) w in
       one_journalled_on last w' early (record { tier = tier; history = history ∙ ap (λ l. l ++ behind) same; journal = journal }) (on_then last early first.now first.more first.grows second)
 
-  wrote : (result : Result Wrote BankError) → Around w.shared (WritesForeign changes result) w.history w'.history → IsJournalledOn w' early
+  pub wrote : (result : Result Wrote BankError) → Around w.shared (WritesForeign changes result) w.history w'.history → IsJournalledOn w' early
   wrote (Ok (Rows n)) a = came n a.before a.middle a.behind a.came_before a.own a.came_behind a.is
   wrote (Ok (Broken rule)) a = without a.before a.middle a.behind a.came_before a.own.0 a.came_behind a.is
   wrote (Err Memory) a = without a.before a.middle a.behind a.came_before a.own a.came_behind a.is
@@ -125,4 +130,5 @@ module _ (writes : List Write) (w w' : World) (early : List Sealed) (stands : St
       by (inr own) = came own.0 a.before a.middle a.behind a.came_before own.1 a.came_behind a.is
 
 pub console_kept : (writes : List Write) → KeepsJournalWhere (AreOffLive writes) (WritesAll writes)
-console_kept writes w w' early reply stands j apart off q ok = wrote writes w w' early stands j apart off q.changes q.stand_for q.tier q.call.journal q.result q.call.history
+console_kept writes w w' early reply stands j apart off q ok =
+    wrote w w' early stands j apart q.changes (λ ops rows b s leaves same done. off q.changes ops rows b s q.stand_for leaves same done) q.tier q.call.journal q.result q.call.history

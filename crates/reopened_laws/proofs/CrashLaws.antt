@@ -21,9 +21,10 @@ use Rattle.reopened_laws.proofs.ReadRuns.{IsReadable, line_keeps, readable_told,
 use Rattle.reopened_laws.proofs.RunEnds.{Reached, begins_again, reached_on}
 use Rattle.reopened_laws.proofs.SchemaLaws.{front_told}
 use Rattle.reopened_laws.proofs.SiteLaws.{site_may_open}
-use Rattle.reopened_laws.proofs.SlotLaws.{left_at, rest_bytes}
+use Rattle.commit_journal.proofs.TailLaws.{rest_bytes}
+use Rattle.reopened_laws.proofs.SlotLaws.{left_at}
 
-same_held : (told : Option Held) (a b : Held) → told ≡ Some a → told ≡ Some b → a ≡ b
+pub same_held : (told : Option Held) (a b : Held) → told ≡ Some a → told ≡ Some b → a ≡ b
 same_held told a b x y = one (sym x ∙ y)
   where
     one : Some a ≡ Some b → a ≡ b
@@ -40,13 +41,13 @@ module _ {D : Type 0} (state : D → SiteState) (possible : D → ℕ → Held �
 
   module _ (w : World) (early : List Sealed) (r : Reached w early) (x : WasLeft (WasKept state possible) w) (apart : IsUnshared w) (reads : IsReadable w) where
     abbrev is : (t : TierJournal) × IsOver state possible x.over.site t w
-    is = over_of x.over.site x.engine.journal w x.kept x.over.keeps
+    is = over_of x.over.site x.over.is.journal w x.kept x.over.is.keeps
 
     abbrev there : Held
     there = is.1.there
 
     history : there.history ≡ w.history
-    history = ap (λ (h : Held). h.history) (same_held (state x.over.site).held there x.over.at.there is.1.certain.told x.over.at.told) ∙ sym x.over.at.history
+    history = ap (λ (h : Held). h.history) (same_held (state x.over.site).held there x.over.is.at.there is.1.certain.told x.over.is.at.told) ∙ sym x.over.is.at.history
 
     kept_there : IsKeptAt there w
     kept_there = record {

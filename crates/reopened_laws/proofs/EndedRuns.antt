@@ -4,7 +4,7 @@ use Rattle.table_defs.specs.declared.definition.TableDef.{TableDef}
 use Rattle.table_state.specs.Histories.{state_of}
 use Rattle.table_state.specs.Tables.{TableState}
 use Rattle.outside.specs.Holding.{Held}
-use Rattle.commit_journal.specs.Opening.{HaveBytes}
+use Rattle.commit_journal.specs.Layout.{HaveBytes}
 use Rattle.outside.specs.Others.{is_shared}
 use Rattle.outside.specs.Sites.{SiteState}
 use Rattle.tier_journal.specs.Keeping.{Keeps}
@@ -21,7 +21,7 @@ use Rattle.stored_tier.specs.Sites.{IsAt}
 use Rattle.tier_opening.specs.Opening.{MayOpen}
 use Rattle.session_cli.specs.Cutting.{all_lines}
 use Rattle.session_cli.specs.Opening.{begins}
-use Rattle.session_cli.specs.Outside.{IsInSlots, Keeping, WasKept}
+use Rattle.session_cli.specs.Outside.{IsInSlots, WasKept}
 use Rattle.session_cli.specs.Serving.{GoesOn, HasFlushed, Origin, Rests, WasLeft}
 use Rattle.reopened_laws.specs.Ending.{LeavesSite, MayOpenAgain, RunsLeaveSites}
 use Rattle.reopened_laws.specs.Leaving.{HaveOwnTableNames, IsKeptAt}
@@ -31,7 +31,8 @@ use Rattle.reopened_laws.proofs.ReadOpenings.{opened_readable}
 use Rattle.reopened_laws.proofs.ReadRuns.{IsReadable, end_keeps, readable_told, run_keeps}
 use Rattle.reopened_laws.proofs.RunEnds.{rests_leave, run_leaves}
 use Rattle.reopened_laws.proofs.SchemaLaws.{front_told}
-use Rattle.reopened_laws.proofs.SlotLaws.{left_at, rest_bytes}
+use Rattle.commit_journal.proofs.TailLaws.{rest_bytes}
+use Rattle.reopened_laws.proofs.SlotLaws.{left_at}
 
 -- ---- the journal is kept at the site
 
@@ -42,10 +43,10 @@ same_held told a b x y = one (sym x ∙ y)
     one e = cc
 
 -- the tier's schema is a front of the bank's
-abbrev KnowsFront : World → Type 0
+abbrev pub KnowsFront : World → Type 0
 KnowsFront w = (s : TableState) → state_of w.history ≡ Some s → (more : List TableDef) × (s.schema ≡ w.tier.schema ++ more)
 
-kept_at : (site : SiteState) (w : World) (left : Held) → IsAt site w → IsInSlots site w → KnowsFront w → IsReadable w → site.held ≡ Some left → IsKeptAt left w
+pub kept_at : (site : SiteState) (w : World) (left : Held) → IsAt site w → IsInSlots site w → KnowsFront w → IsReadable w → site.held ≡ Some left → IsKeptAt left w
 kept_at site w left at slots front reads told = record {
   history = ap (λ (h : Held). h.history) (same_held site.held left at.there told at.told) ∙ sym at.history;
   journal = slots.journal;
@@ -56,16 +57,16 @@ kept_at site w left at slots front reads told = record {
 }
 
 -- no slot of it is without bytes
-bytes_at : (site : SiteState) (w : World) (left : Held) → IsInSlots site w → site.held ≡ Some left → HaveBytes left.slots
+pub bytes_at : (site : SiteState) (w : World) (left : Held) → IsInSlots site w → site.held ≡ Some left → HaveBytes left.slots
 bytes_at site w left slots told = subst (λ (h : Held). HaveBytes h.slots) (same_held site.held slots.there left slots.told told) (rest_bytes slots.journal.journal slots.there.slots _ _ slots.keeps.rests)
 
 -- the site of a world that may be opened has its names
-named_at : (site : SiteState) (w : World) (left : Held) → IsAt site w → IsReadable w → site.held ≡ Some left → (s : TableState) → state_of left.history ≡ Some s → HaveOwnTableNames s.schema
+pub named_at : (site : SiteState) (w : World) (left : Held) → IsAt site w → IsReadable w → site.held ≡ Some left → (s : TableState) → state_of left.history ≡ Some s → HaveOwnTableNames s.schema
 named_at site w left at reads told s leaves = reads.named s (ap state_of (at.history ∙ ap (λ (h : Held). h.history) (same_held site.held at.there left at.told told)) ∙ leaves)
 
 -- ---- how it is known
 
-module _ (settings : Settings) (moment : ℕ) (there left : Held) (o : Origin) (lines : List (List ℕ)) (replies : List (Option Reply)) (site : SiteState) (once : Keeping) (x : Opens settings moment there o.world) (may : MayOpenAgain o.world.shared there) where
+module _ (settings : Settings) (moment : ℕ) (there left : Held) (o : Origin) (lines : List (List ℕ)) (replies : List (Option Reply)) (site : SiteState) (once : World → Type 0) (x : Opens settings moment there o.world) (may : MayOpenAgain o.world.shared there) where
   -- in the world behind the lines
   module _ (given : List Given) (ran : World) (run : LineRun o.world given replies ran) (goes : GoesOn once o.world given replies ran run) (apart : IsUnshared ran) where
     was : WasLeft once ran
@@ -114,18 +115,18 @@ module _ (settings : Settings) (moment : ℕ) (there left : Held) (o : Origin) (
       whole = (kept_flushes [] ran last None was.kept finishes refl).0
 
 pub flushed_leave_sites : {D : Type 0} (state : D → SiteState) (possible : D → ℕ → Held → Type 0) → LeavesSite state possible HasFlushed
-flushed_leave_sites state possible settings moment there left o lines replies site x may a apart told =
-    let once : Keeping = WasKept state possible in
+flushed_leave_sites state possible settings moment there left o lines replies d x may a apart told =
+    let once : World → Type 0 = WasKept state possible in
     let was = left_last once o.world a.comes.given replies a.ran a.comes.run a.goes in
-    flushed_leaves settings moment there left o lines replies site once x may a.comes.given a.ran a.comes.run a.goes
-    (apart_before settings moment there left o lines replies site once x may a.ran a.last was a.ended.flushed apart) a.last a.ended.flushed apart a.at a.slots told
+    flushed_leaves settings moment there left o lines replies (state d) once x may a.comes.given a.ran a.comes.run a.goes
+    (apart_before settings moment there left o lines replies (state d) once x may a.ran a.last was a.ended.flushed apart) a.last a.ended.flushed apart a.at a.slots told
 
 pub rests_leave_sites : {D : Type 0} (state : D → SiteState) (possible : D → ℕ → Held → Type 0) → LeavesSite state possible Rests
-rests_leave_sites state possible settings moment there left o lines replies site x may a apart told =
-    rest_leaves settings moment there left o lines replies site (WasKept state possible) x may a.comes.given a.ran a.comes.run a.goes (subst IsUnshared a.ended apart) (subst (IsAt site) a.ended a.at) (subst (IsInSlots site) a.ended a.slots) told
+rests_leave_sites state possible settings moment there left o lines replies d x may a apart told =
+    rest_leaves settings moment there left o lines replies (state d) (WasKept state possible) x may a.comes.given a.ran a.comes.run a.goes (subst IsUnshared a.ended apart) (subst (IsAt (state d)) a.ended a.at) (subst (IsInSlots (state d)) a.ended a.slots) told
 
 pub runs_leave_sites : {D : Type 0} (state : D → SiteState) (possible : D → ℕ → Held → Type 0) → RunsLeaveSites state possible
 runs_leave_sites state possible settings there left start input written written' coming coming' d d' source x alone may apart told =
     let run = x.ended alone in
-    flushed_leave_sites state possible settings x.first there left (begins x.world start coming) (all_lines run.taken.given) run.outcome.replies (state d') x.opens
+    flushed_leave_sites state possible settings x.first there left (begins x.world start coming) (all_lines run.taken.given) run.outcome.replies d' x.opens
     (record { may = subst (λ s. MayOpen s there) (sym x.shares) may.may; bytes = may.bytes; named = may.named }) run.outcome.answered apart told

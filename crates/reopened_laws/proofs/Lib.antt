@@ -1,6 +1,7 @@
 mod CrashLaws
 mod EndedRuns
 mod HandedOn
+mod ImportLaws
 mod ReadLines
 mod ReadNames
 mod ReadOpenings

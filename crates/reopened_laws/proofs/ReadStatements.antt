@@ -80,7 +80,7 @@ row_none : (t : TableId) (key : List Value) (r : Result (Option (List Value)) Ba
 row_none t key (Ok row) old new p = adds_nothing old new p.0
 row_none t key (Err e) old new p = adds_nothing old new p
 
-foreign_none : (changes : List Change) (r : Result Wrote BankError) → DefinesNone (WritesForeign changes r)
+pub foreign_none : (changes : List Change) (r : Result Wrote BankError) → DefinesNone (WritesForeign changes r)
 foreign_none changes (Ok (Rows n)) old new p = record { more = Foreign p.ops ∷ []; is = p.grows; none = refl }
 foreign_none changes (Ok (Broken rule)) old new p = adds_nothing old new p.0
 foreign_none changes (Err Memory) old new p = adds_nothing old new p

@@ -21,7 +21,7 @@ defs_behind : (h entries : List Entry) → defs_of entries ≡ [] → defs_of (h
 defs_behind h entries none = defs-append h entries ∙ ap (λ l. defs_of h ++ l) none ∙ append-nil (defs_of h)
 
 -- a call that defines nothing
-defs_around : (shared : List TableId) (step : List Entry → List Entry → Type 0) (old new : List Entry) → ((a b : List Entry) → step a b → defs_of b ≡ defs_of a) → Around shared step old new → defs_of new ≡ defs_of old
+pub defs_around : (shared : List TableId) (step : List Entry → List Entry → Type 0) (old new : List Entry) → ((a b : List Entry) → step a b → defs_of b ≡ defs_of a) → Around shared step old new → defs_of new ≡ defs_of old
 defs_around shared step old new so x =
     ap defs_of x.is ∙ defs_behind x.middle x.behind (defs_others shared x.middle x.behind x.came_behind) ∙ so (old ++ x.before) x.middle x.own ∙ defs_behind old x.before (defs_others shared old x.before x.came_before)
 
@@ -73,3 +73,9 @@ front_left w x = by w.tier.doubt x
 -- what is so of the state that the history leaves
 pub front_told : (w : World) → IsLeft w → (s : TableState) → state_of w.history ≡ Some s → (more : List TableDef) × (s.schema ≡ w.tier.schema ++ more)
 front_told w x s leaves = let f = front_left w x in (f.more, schema_after w.history no_tables s leaves ∙ f.is)
+
+-- so it is of another world with the same schema, where nothing was defined since
+pub front_same : (w w' : World) → IsLeft w → w'.tier.schema ≡ w.tier.schema → defs_of w'.history ≡ defs_of w.history → (s : TableState) → state_of w'.history ≡ Some s → (more : List TableDef) × (s.schema ≡ w'.tier.schema ++ more)
+front_same w w' x schema defs s leaves =
+    let f = front_then w.tier.schema w'.tier.schema w.history w'.history schema defs (front_left w x) in
+    (f.more, schema_after w'.history no_tables s leaves ∙ f.is)

@@ -17,14 +17,11 @@ use Rattle.sql_subset.specs.declared.stmt.Stmt.{Stmt}
 use Rattle.sql_subset.specs.declared.stmt.Stmt.TheVariants as statement
 use Rattle.sql_print.specs.Normal.{normal_group}
 use Rattle.outside.specs.Holding.{Held, Slots, other, slot_of}
-use Rattle.outside.specs.declared.disk.Slot.{Slot}
-use Rattle.outside.specs.declared.disk.Slot.TheVariants.{First, Second}
 use Rattle.journal_entries.specs.declared.entry.Entry.{Entry}
 use Rattle.journal_entries.specs.declared.entry.Entry.TheVariants.{Commit, Prepare, Passed, Mark, Defined, Dropped, Turned, Loaded}
 use Rattle.journal_entries.specs.declared.entry.Op as by_name
 use Rattle.journal_entries.specs.declared.entry.Op.TheVariants as named
-use Rattle.commit_journal.specs.Layout.{Gives, Placed, entries_of}
-use Rattle.commit_journal.specs.Opening.{HaveBytes}
+use Rattle.commit_journal.specs.Layout.{entries_of, Gives, Placed}
 use Rattle.commit_journal.specs.Resting.{AtRest}
 use Rattle.commit_journal.specs.declared.journal.Journal as commit
 use Rattle.commit_journal.proofs.OneJournal.{one_journal}
@@ -250,18 +247,6 @@ slots_say o w k s said leaves say =
 
     written_same : written_all s.schema w.journal.flushed ≡ written_all w.tier.schema w.journal.flushed
     written_same = ap (λ l. written_all l w.journal.flushed) grown ∙ all_grown w.tier.schema more w.journal.flushed before
-
--- no slot is without bytes
-some_behind : (front junk : List ℕ) (gate : ℕ) → 1 ≤ length (front ++ gate ∷ junk)
-some_behind [] junk gate = omega arith
-some_behind (x ∷ front) junk gate = omega arith
-
-pub rest_bytes : (j : commit.Journal) (slots : Slots) (flushed tail : List Entry) → AtRest j slots flushed tail → HaveBytes slots
-rest_bytes j slots flushed tail x = by j.slot x.bytes x.other_some
-  where
-    by : (slot : Slot) → slot_of slot slots ≡ x.front ++ x.gate ∷ x.junk → 1 ≤ length (slot_of (other slot) slots) → HaveBytes slots
-    by First is more = record { first = subst (λ l. 1 ≤ length l) (sym is) (some_behind x.front x.junk x.gate); second = more }
-    by Second is more = record { first = more; second = subst (λ l. 1 ≤ length l) (sym is) (some_behind x.front x.junk x.gate) }
 
 pub left_at : (o : Held) (w : World) → IsKeptAt o w → IsLeftAt o w
 left_at o w k = record { history = k.history; says = slots_say o w k }

@@ -6,17 +6,20 @@ use Rattle.table_state.specs.Histories.{state_of}
 use Rattle.table_state.specs.Tables.{TableState}
 use Rattle.outside.specs.Holding.{Held}
 use Rattle.outside.specs.Sites.{SiteState}
-use Rattle.commit_journal.specs.Opening.{HaveBytes}
+use Rattle.commit_journal.specs.Layout.{HaveBytes}
+use Rattle.kept_journal.specs.Keeping.{KeepsOver}
 use Rattle.cache_tier.specs.declared.reply.Reply.{Reply}
 use Rattle.cache_tier.specs.TierStates.{Settings}
 use Rattle.cache_tier.specs.Worlds.{IsUnshared, World}
 use Rattle.tier_opening.specs.Opening.{MayOpen}
 use Rattle.cache_engine.specs.Opening.{Opens}
 use Rattle.cache_engine.specs.Requests.{Given, LineRun}
+use Rattle.session_cli.specs.declared.serving.Status.{Status}
 use Rattle.session_cli.specs.declared.serving.Status.TheVariants.{Finished}
 use Rattle.session_cli.specs.Ends.{OpenedAndEnded}
+use Rattle.session_cli.specs.Importing.{OpenedAndImported}
 use Rattle.session_cli.specs.Opening.{begins}
-use Rattle.session_cli.specs.Outside.{Keeping, WasKept, seen}
+use Rattle.session_cli.specs.Outside.{WasKept, seen}
 use Rattle.session_cli.specs.Timing.{Coming}
 use Rattle.session_cli.specs.Serving.{Answered, GoesOn, IsLeftAlone, Origin, WasLeft}
 use Rattle.reopened_laws.specs.Leaving.{HaveOwnTableNames}
@@ -30,12 +33,12 @@ pub record MayOpenAgain (shared : List TableId) (o : Held) : Type 0 where
 -- A run over the lines that began with a tier opened over such a site, and of which all lines are answered, leaves one,
 -- where others change no table of a writethrough group at its end.
 abbrev pub LeavesSite : {D : Type 0} → (D → SiteState) → (D → ℕ → Held → Type 0)
-    → (Keeping → World → World → Type 0) → Type 0
-LeavesSite state possible ends =
+    → (World → World → Type 0) → Type 0
+LeavesSite {D = D} state possible ends =
     (settings : Settings) (moment : ℕ) (there left : Held) (o : Origin) (lines : List (List ℕ))
-    (replies : List (Option Reply)) (site : SiteState) → Opens settings moment there o.world
-    → MayOpenAgain o.world.shared there → (a : Answered ends o lines replies site (WasKept state possible))
-    → IsUnshared a.last → site.held ≡ Some left → MayOpenAgain site.shared left
+    (replies : List (Option Reply)) (d : D) → Opens settings moment there o.world → MayOpenAgain o.world.shared there
+    → (a : Answered ends o lines replies (state d) (KeepsOver state possible d) (WasKept state possible))
+    → IsUnshared a.last → (state d).held ≡ Some left → MayOpenAgain (state d).shared left
 
 -- The same of a run of the program that was opened and ended with the status 0, and of what its site holds then.
 abbrev pub RunsLeaveSites : {D : Type 0} → (D → SiteState) → (D → ℕ → Held → Type 0) → Type 0
@@ -46,6 +49,15 @@ RunsLeaveSites {D = D} state possible =
     (seen written' coming' state possible d')) (alone : IsLeftAlone (begins x.world start coming) input)
     → MayOpenAgain (state d).shared there → IsUnshared (x.ended alone).outcome.answered.last
     → (state d').held ≡ Some left → MayOpenAgain (state d').shared left
+
+-- The same of the command `import` that was opened, whether its rows were imported or refused, or nothing was done.
+abbrev pub ImportsLeaveSites : {D : Type 0} → (D → SiteState) → (D → ℕ → Held → Type 0) → Type 0
+ImportsLeaveSites {D = D} state possible =
+    (status : Status) (settings : Settings) (there left : Held) (word input : List ℕ)
+    (written written' : Option (List ℕ)) (coming coming' : Coming) (d d' : D) (source : Option (List ℕ))
+    → OpenedAndImported status settings there word input (seen written coming state possible d) source
+    (seen written' coming' state possible d')
+    → MayOpenAgain (state d).shared there → (state d').held ≡ Some left → MayOpenAgain (state d').shared left
 
 -- ---- a crash between two lines
 

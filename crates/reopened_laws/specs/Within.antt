@@ -1,25 +1,32 @@
--- What a crash leaves at the moments of a line, over what the program's clause says of it. (This project's rule, over
+-- What a crash leaves at each moment of a run, over what the program's clause says of it. (This project's rule, over
 -- recovery as the TimesTen Cache User's Guide, "Recovery", tells of it.)
 
-use Rattle.std.specs.Prelude.{◌≡◌, ℕ, ◌≤◌, List, [], ◌∷◌, Option}
+use Rattle.std.specs.Prelude.{◌≡◌, ℕ, ◌≤◌, List, [], ◌∷◌, Option, Some}
 use Rattle.table_defs.specs.declared.definition.TableDef.{TableDef}
+use Rattle.table_state.specs.Histories.{state_of}
+use Rattle.table_state.specs.Tables.{TableState}
 use Rattle.outside.specs.Holding.{Held}
 use Rattle.outside.specs.Sites.{SiteState}
 use Rattle.cache_tier.specs.declared.reply.Reply.{Reply}
 use Rattle.cache_tier.specs.Journals.{JournalEntry}
 use Rattle.cache_tier.specs.TierStates.{Settings}
-use Rattle.cache_tier.specs.Worlds.{IsUnshared, World}
+use Rattle.cache_tier.specs.Worlds.{World}
 use Rattle.tier_journal.specs.Leaving.{GivesEntries}
+use Rattle.kept_journal.specs.Keeping.{KeepsOver}
 use Rattle.kept_journal.specs.Leaving.{HasBecome}
 use Rattle.recovery.specs.SafeWays.{IsSafe}
 use Rattle.cache_engine.specs.Opening.{Opens}
 use Rattle.cache_engine.specs.Requests.{Given, LineRun}
-use Rattle.session_cli.specs.Outside.{WasKept}
-use Rattle.session_cli.specs.Serving.{Answered, FlushesBy, GoesOn, HasFlushed, Origin, PassesBy}
+use Rattle.session_cli.specs.declared.serving.Status.TheVariants.{Finished}
+use Rattle.session_cli.specs.Ends.{OpenedAndEnded}
+use Rattle.session_cli.specs.Opening.{begins}
+use Rattle.session_cli.specs.Outside.{WasKept, seen}
+use Rattle.session_cli.specs.Serving.{Answered, GoesOn, IsLeftAlone, LedSince, LedSinceEach, Origin}
+use Rattle.session_cli.specs.Timing.{Coming}
 use Rattle.reopened_laws.specs.Ending.{MayOpenAgain}
 
 -- The slots give entries, under a schema that has become this one. They belong together with the history, and hold each
--- commit that was held in the world in which the line began: by what was flushed there, or by its history.
+-- commit that was held in the world in which a line began: by what was flushed there, or by its history.
 pub record IsSafeLeft (w : World) (schema : List TableDef) (p : Held) : Type 0 where
   pub entries : List JournalEntry
   pub early : List TableDef
@@ -27,45 +34,66 @@ pub record IsSafeLeft (w : World) (schema : List TableDef) (p : Held) : Type 0 w
   pub gives : GivesEntries early p.slots entries
   pub safe : IsSafe w.journal.flushed w.history entries p.history
 
--- so it is at each moment of the line
-abbrev pub LeavesSafe : {D : Type 0} (state : D → SiteState) (possible : D → ℕ → Held → Type 0) (base : ℕ) (w : World)
-    (line : List ℕ) (reply : Option Reply) → PassesBy (WasKept state possible) base w line reply → Type 0
-LeavesSafe state possible base w line reply by =
-    (k : ℕ) (p : Held) → w.moment ≤ k → k ≤ (state by.was.over.site).moment → possible by.was.over.site k p
-    → IsSafeLeft w by.world.tier.schema p
+-- So it is at each moment since that world, up to the moment of the site, of whatever a crash has left of it.
+abbrev pub LeavesSafe : {D : Type 0} (state : D → SiteState) (possible : D → ℕ → Held → Type 0) (d : D) (w : World)
+    (schema : List TableDef) → Type 0
+LeavesSafe state possible d w schema =
+    (k : ℕ) (p : Held) → w.moment ≤ k → k ≤ (state d).moment → possible d k p → IsSafeLeft w schema p
 
--- of each line of a run
-abbrev pub CrashesAreSafe : {D : Type 0} (state : D → SiteState) (possible : D → ℕ → Held → Type 0) (w : World)
+-- since a run began, since each of its lines did, and since the last one ended
+abbrev pub CrashesAreSafe : {D : Type 0} (state : D → SiteState) (possible : D → ℕ → Held → Type 0) (d : D)
+    (schema : List TableDef) (w : World) (lines : List Given) (replies : List (Option Reply)) (w' : World)
+    → LineRun w lines replies w' → Type 0
+CrashesAreSafe state possible d schema w [] [] w' run = LeavesSafe state possible d w' schema
+CrashesAreSafe state possible d schema w [] (reply ∷ replies) w' run = ⊥
+CrashesAreSafe state possible d schema w (g ∷ lines) [] w' run = ⊥
+CrashesAreSafe state possible d schema w (g ∷ lines) (reply ∷ replies) w' run =
+    LeavesSafe state possible d w schema × CrashesAreSafe state possible d schema run.0 lines replies w' run.2
+
+-- Of each run of which all lines are answered, which began with a tier opened over a site that might be opened: of the
+-- site as it is at its end, under the schema of what it holds then.
+abbrev pub CrashesWithinAreSafe : {D : Type 0} → (D → SiteState) → (D → ℕ → Held → Type 0)
+    → (World → World → Type 0) → Type 0
+CrashesWithinAreSafe {D = D} state possible ends =
+    (settings : Settings) (moment : ℕ) (there left : Held) (s : TableState) (o : Origin) (lines : List (List ℕ))
+    (replies : List (Option Reply)) (d : D) → Opens settings moment there o.world → MayOpenAgain o.world.shared there
+    → (a : Answered ends o lines replies (state d) (KeepsOver state possible d) (WasKept state possible))
+    → (state d).held ≡ Some left → state_of left.history ≡ Some s
+    → CrashesAreSafe state possible d s.schema o.world a.comes.given replies a.ran a.comes.run
+
+-- the same of a run of the program that was opened and ended with the status 0
+abbrev pub RunsAreSafe : {D : Type 0} → (D → SiteState) → (D → ℕ → Held → Type 0) → Type 0
+RunsAreSafe {D = D} state possible =
+    (settings : Settings) (there left : Held) (s : TableState) (start input : List ℕ)
+    (written written' : Option (List ℕ)) (coming coming' : Coming) (d d' : D) (source : Option (List ℕ))
+    (x : OpenedAndEnded Finished settings there start input (seen written coming state possible d) source
+    (seen written' coming' state possible d')) (alone : IsLeftAlone (begins x.world start coming) input)
+    → MayOpenAgain (state d).shared there → (state d').held ≡ Some left → state_of left.history ≡ Some s
+    → CrashesAreSafe state possible d' s.schema x.world (x.ended alone).outcome.answered.comes.given
+    (x.ended alone).outcome.replies (x.ended alone).outcome.answered.ran (x.ended alone).outcome.answered.comes.run
+
+-- ---- where a call of the journal's disk failed
+
+-- up to the last world in which a journal was kept over the disk, of the site as it was then
+abbrev pub WasSafe : {D : Type 0} (state : D → SiteState) (possible : D → ℕ → Held → Type 0) (w : World)
+    (lines : List Given) (replies : List (Option Reply)) → LedSince (WasKept state possible) w lines replies → Type 0
+WasSafe state possible w lines replies x = LeavesSafe state possible x.is.site w x.world.tier.schema
+
+abbrev pub WereSafe : {D : Type 0} (state : D → SiteState) (possible : D → ℕ → Held → Type 0) (w : World)
     (lines : List Given) (replies : List (Option Reply)) (w' : World) (run : LineRun w lines replies w')
-    → GoesOn (WasKept state possible) w lines replies w' run → Type 0
-CrashesAreSafe state possible w [] [] w' run was = Unit {0}
-CrashesAreSafe state possible w [] (reply ∷ replies) w' run goes = Unit {0}
-CrashesAreSafe state possible w (g ∷ lines) [] w' run goes = Unit {0}
-CrashesAreSafe state possible w (g ∷ lines) (reply ∷ replies) w' run goes =
-    LeavesSafe state possible g.base w g.bytes reply goes.4
-    × CrashesAreSafe state possible run.0 lines replies w' run.2 goes.3
+    → LedSinceEach (WasKept state possible) w lines replies w' run → Type 0
+WereSafe state possible w [] [] w' run since = WasSafe state possible w' [] [] since
+WereSafe state possible w [] (reply ∷ replies) w' run since = ⊥
+WereSafe state possible w (g ∷ lines) [] w' run since = ⊥
+WereSafe state possible w (g ∷ lines) (reply ∷ replies) w' run since =
+    WasSafe state possible w (g ∷ lines) (reply ∷ replies) since.0
+    × WereSafe state possible run.0 lines replies w' run.2 since.1
 
--- of each run that began with a tier opened over a site that might be opened
-abbrev pub CrashesWithinAreSafe : {D : Type 0} → (D → SiteState) → (D → ℕ → Held → Type 0) → Type 0
-CrashesWithinAreSafe state possible =
+-- of each run that began with a tier opened over a site that might be opened, as far as it went on
+abbrev pub CrashesBeforeAreSafe : {D : Type 0} → (D → SiteState) → (D → ℕ → Held → Type 0) → Type 0
+CrashesBeforeAreSafe state possible =
     (settings : Settings) (moment : ℕ) (there : Held) (w w' : World) (lines : List Given)
     (replies : List (Option Reply)) (run : LineRun w lines replies w') → Opens settings moment there w
-    → MayOpenAgain w.shared there → (goes : GoesOn (WasKept state possible) w lines replies w' run)
-    → CrashesAreSafe state possible w lines replies w' run goes
-
--- ---- behind the last line
-
--- at each moment of the flush at the end of the input
-abbrev pub FlushLeavesSafe : {D : Type 0} (state : D → SiteState) (possible : D → ℕ → Held → Type 0) (w : World)
-    → FlushesBy (WasKept state possible) w → Type 0
-FlushLeavesSafe state possible w by =
-    (k : ℕ) (p : Held) → w.moment ≤ k → k ≤ (state by.over.site).moment → possible by.over.site k p
-    → IsSafeLeft w by.world.tier.schema p
-
--- of each run whose lines are all answered, where others change no table of a writethrough group then
-abbrev pub FlushesAreSafe : {D : Type 0} → (D → SiteState) → (D → ℕ → Held → Type 0) → Type 0
-FlushesAreSafe state possible =
-    (settings : Settings) (moment : ℕ) (there : Held) (o : Origin) (lines : List (List ℕ))
-    (replies : List (Option Reply)) (site : SiteState) → Opens settings moment there o.world
-    → MayOpenAgain o.world.shared there → (a : Answered HasFlushed o lines replies site (WasKept state possible))
-    → IsUnshared a.ran → FlushLeavesSafe state possible a.ran a.ended.passes
+    → MayOpenAgain w.shared there → GoesOn (WasKept state possible) w lines replies w' run
+    → (since : LedSinceEach (WasKept state possible) w lines replies w' run)
+    → WereSafe state possible w lines replies w' run since

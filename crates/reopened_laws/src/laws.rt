@@ -14,8 +14,8 @@ ghost use Rattle.tier_opening.specs.Opening.{MayOpen};
 ghost use Rattle.cache_engine.specs.Opening.{Opens};
 ghost use Rattle.cache_engine.specs.Requests.{Given, LineRun};
 ghost use Rattle.session_cli.specs.Serving.{HasFlushed, Rests};
-ghost use Rattle.reopened_laws.specs.Within.{CrashesWithinAreSafe, FlushesAreSafe};
-ghost use Rattle.reopened_laws.specs.Ending.{CrashesLeaveSites, LeavesSite, RunsLeaveSites};
+ghost use Rattle.reopened_laws.specs.Within.{CrashesBeforeAreSafe, CrashesWithinAreSafe, RunsAreSafe};
+ghost use Rattle.reopened_laws.specs.Ending.{CrashesLeaveSites, ImportsLeaveSites, LeavesSite, RunsLeaveSites};
 ghost use Rattle.reopened_laws.specs.Leaving.{GoesOnThrough, IsKeptAt, IsLeftAt};
 
 use outside::Site;
@@ -42,10 +42,10 @@ pub fn run_leaves_law()
         → IsLeftAt o last → MayOpen last.shared o }
 {}
 
-/// A run that began with a tier which was opened over a site, over what the clause `runs` of `top` says of it: where all
-/// of its lines were answered and the tail was flushed, as with the status 0 (`flushed`), or wasn't, as with 3 and 10
-/// (`rests`), the next one may be opened over what the site holds at its end. That asks no more than that others change
-/// no table of a writethrough group then. No two tables of the bank have one name still.
+/// A run that began with a tier which was opened over a site, over what the clause `runs` of `top` says of it: where
+/// all of its lines were answered and the tail was flushed, as with the status 0 (`flushed`), or wasn't, as with 3 and
+/// 10 (`rests`), the next one may be opened over what the site holds at its end. That asks no more than that others
+/// change no table of a writethrough group then. No two tables of the bank have one name still.
 pub fn answered_law<P: Site>()
     ensures flushed { LeavesSite P.Disk.state P.Disk.possible HasFlushed }
     ensures rests { LeavesSite P.Disk.state P.Disk.possible Rests }
@@ -56,15 +56,25 @@ pub fn program_law<P: Site>()
     ensures { RunsLeaveSites P.Disk.state P.Disk.possible }
 {}
 
-/// The same over what that clause says of each world between two lines: a tier may be opened over whatever a crash leaves
-/// of the site there.
+/// So it is of the command `import` that was opened, whether its rows were imported or refused, or nothing was done.
+pub fn import_law<P: Site>()
+    ensures { ImportsLeaveSites P.Disk.state P.Disk.possible }
+{}
+
+/// The same over what that clause says of each world between two lines: a tier may be opened over whatever a crash
+/// leaves of the site there.
 pub fn crash_law<P: Site>()
     ensures { CrashesLeaveSites P.Disk.state P.Disk.possible }
 {}
 
-/// And at each moment of each line, inside it too (`lines`), and of the flush behind the last one (`flush`): what the
-/// slots give then and the history belong together, and hold each commit that was held where the line, or the flush, began.
+/// And at each moment of a run, inside its lines too: what the slots give and the history belong together, and hold
+/// each commit that was held where the last line before began, or the flush behind the last one. Where all lines were
+/// answered that is said of the site as it is at the end, whether the tail was flushed (`flushed`) or wasn't (`rests`),
+/// and of a run of the program that ended with the status 0 (`program`). Where a call of the journal's disk failed it
+/// is said of the lines before, and of a site that was there then (`before`).
 pub fn within_law<P: Site>()
-    ensures lines { CrashesWithinAreSafe P.Disk.state P.Disk.possible }
-    ensures flush { FlushesAreSafe P.Disk.state P.Disk.possible }
+    ensures flushed { CrashesWithinAreSafe P.Disk.state P.Disk.possible HasFlushed }
+    ensures rests { CrashesWithinAreSafe P.Disk.state P.Disk.possible Rests }
+    ensures program { RunsAreSafe P.Disk.state P.Disk.possible }
+    ensures before { CrashesBeforeAreSafe P.Disk.state P.Disk.possible }
 {}

@@ -5,5 +5,6 @@
 mod laws;
 
 pub use laws::{
-    answered_law, crash_law, program_law, run_leaves_law, site_law, slots_law, within_law,
+    answered_law, crash_law, import_law, program_law, run_leaves_law, site_law, slots_law,
+    within_law,
 };

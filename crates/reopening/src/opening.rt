@@ -16,9 +16,9 @@ use stored_tier::tier::Tier;
 
 /// Opens a tier again over what its journal's entries leave. The commits are applied at the bank in ticket order. Then
 /// rows come back: explicit READONLY groups whose flag is set show their views at one position, and each explicit
-/// writethrough group whose flag is set holds all its instances. The others hold nothing; dynamic groups among them load
-/// on demand. Nothing is unsettled then, no session is open, and sets count from this moment. The journal isn't written
-/// to.
+/// writethrough group whose flag is set holds all its instances. The others hold nothing; dynamic groups among them
+/// load on demand. Nothing is unsettled then, no session is open, and sets count from this moment. The journal isn't
+/// written to.
 ///
 /// `Failed` only where a call of the bank failed, and the count of its faults rose in this call; `Differs` with the
 /// table and the key only where a backing row wasn't as a commit tells, as that was tried; `Memory` where memory was

@@ -26,7 +26,8 @@ Makes SinkFailed number sink sink' = IsFront (script_bytes number) sink sink'
 Makes NoMemory number sink sink' = IsFront (script_bytes number) sink sink'
 
 -- the script was run, and its summary came to the sink, or a front of it
-pub record Tells (number : ℕ) (came : List ℕ → Option (List ℕ) → Option (List ℕ) → Type 0) (sink sink' : Option (List ℕ))
+pub record Tells (number : ℕ) (came : List ℕ → Option (List ℕ) → Option (List ℕ) → Type 0)
+    (sink sink' : Option (List ℕ))
     : Type 0 where
   pub summary : Summary
   pub is : IsSummaryOf number summary

@@ -70,7 +70,8 @@ pub record IsSummaryOf (number : ℕ) (s : Summary) : Type 0 where
   pub entries : s.entries ≡ length last.history
 
 -- the next line is answered and counted
-pub record Answered (w : World) (line : List ℕ) (counts counts' : Counts) (engine : Engine) (site : SiteState) : Type 0 where
+pub record Answered (w : World) (line : List ℕ) (counts counts' : Counts) (engine : Engine) (site : SiteState)
+    : Type 0 where
   pub reply : Option Reply
   pub world : World
   pub step : LineStep 0 w line world reply

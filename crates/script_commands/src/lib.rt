@@ -1,4 +1,5 @@
-//! The commands `make` and `bench`: the generated script of a number, and what its run on a new site in memory comes to.
+//! The commands `make` and `bench`: the generated script of a number, and what its run on a new site in memory comes
+//! to.
 #![tactic(auto)]
 
 pub mod benching;

@@ -16,7 +16,7 @@ use Rattle.session_cli.specs.declared.serving.Status.TheVariants.{Finished, Sour
 use Rattle.session_cli.specs.Cutting.{ended_lines, all_lines}
 use Rattle.session_cli.specs.Ends.{Ended, Gives, OpenedAndEnded, Outcome, Runs, Stops, Taken, Unopened, input_limit, status_of, takes_none}
 use Rattle.session_cli.specs.Opening.{begins}
-use Rattle.session_cli.specs.Outside.{Keeping, Outside}
+use Rattle.session_cli.specs.Outside.{Outside}
 use Rattle.session_cli.specs.Serving.{HasFlushed, IsLeftAlone, Origin, Rests, Serving, StopsAt, Whole}
 use Rattle.session_cli.specs.Timing.{Coming, bases_by, bases_of}
 use Rattle.session_cli.proofs.ServingLaws.{left_front, serving_whole}
@@ -43,7 +43,7 @@ unfolding taking_new
 going_new o session input source now is s = record { taking = taking_new input source is; serving = s }
 
 -- how a run ended doesn't go by what the clock would answer then
-whole_then : (ends : Keeping → World → World → Type 0) (o : Origin) (lines : List (List ℕ)) (now : Outside) (coming : Coming) → Whole ends o lines now → Whole ends o lines (record now { coming = coming })
+whole_then : (ends : World → World → Type 0) (o : Origin) (lines : List (List ℕ)) (now : Outside) (coming : Coming) → Whole ends o lines now → Whole ends o lines (record now { coming = coming })
 whole_then ends o lines now coming w = record { replies = w.replies; answered = w.answered; tells = w.tells }
 
 stops_then : (why : Stop) (o : Origin) (lines : List (List ℕ)) (now : Outside) (coming : Coming) → StopsAt why o lines now → StopsAt why o lines (record now { coming = coming })

@@ -11,8 +11,7 @@ use Rattle.cache_tier.specs.Replying.{replies_bytes, reply_bytes}
 use Rattle.cache_tier.specs.Rounds.{IsDrained}
 use Rattle.cache_tier.specs.Worlds.{Passes, World}
 use Rattle.cache_tier.specs.declared.reply.Reply.{Reply}
-use Rattle.kept_journal.specs.Beginning.{begun_here}
-use Rattle.kept_journal.specs.Keeping.{is_broken, over_disk}
+use Rattle.kept_journal.specs.Keeping.{KeepsOver, is_broken, over_disk}
 use Rattle.stored_tier.proofs.OverLaws.{flush_breaks, never_both}
 use Rattle.tier_journal.specs.declared.journal.TierJournal.{TierJournal}
 use Rattle.cache_engine.specs.Finishing.{IsFinished}
@@ -21,14 +20,16 @@ use Rattle.cache_engine.proofs.EngineLaws.{known_of}
 use Rattle.session_cli.specs.declared.answering.Stop.{Stop}
 use Rattle.session_cli.specs.declared.answering.Stop.TheVariants as stop
 use Rattle.session_cli.specs.Cutting.{all_lines}
-use Rattle.session_cli.specs.Outside.{WasKept, seen}
+use Rattle.session_cli.specs.Outside.{Outside, WasKept, seen}
 use Rattle.session_cli.specs.Output.{Breaks, Splits}
-use Rattle.session_cli.specs.Serving.{Answered, Closing, EndBroken, Finishes, HasFlushed, Origin, PassesReply, TellsFault, WritesLast}
+use Rattle.session_cli.specs.Serving.{Answered, Closing, EndBroken, EndsKept, Finishes, HasFlushed, Origin, PassesReply, StandsHere, TellsFault, WritesLast}
 use Rattle.session_cli.specs.Timing.{Coming}
 use Rattle.session_cli.proofs.DrainedLaws.{drained_of}
 use Rattle.session_cli.proofs.OutputLaws.{breaks_then, splits_then}
 use Rattle.session_cli.proofs.ServingLaws.{replies_push, told_after, told_whole}
+use Rattle.session_cli.proofs.RunLaws.{since_map}
 use Rattle.session_cli.proofs.SlotLaws.{in_slots}
+use Rattle.session_cli.proofs.WayLaws.{kept_once}
 
 -- NOTHING WAITS BEHIND A FLUSH
 
@@ -60,30 +61,37 @@ drained_over w j faults moment x = record { settled = x.settled; ordered = x.ord
 
 module _ {D : Type 0} (state : D → SiteState) (possible : D → ℕ → Held → Type 0) (o : Origin) (given : List ℕ) (written written' : Option (List ℕ)) (coming : Coming) (d d' : D) (engine : Engine) (k' : Option TierJournal) (waiting : List ℕ)
     (c : Closing o (all_lines given) (seen written coming state possible d) engine waiting) where
+  abbrev before : Outside
+  before = seen written coming state possible d
+
+  -- so it ends from a world
+  ends_from : (w : World) → StandsHere before engine w → IsFinished state possible k' d' None w → EndsKept HasFlushed (state d') (KeepsOver state possible d') w
+  ends_from w at x =
+      let behind = over_disk x.journal x.faults (state d').moment w in
+      let clears = flush_clears w behind at.stands.kept x.is in
+      record {
+        last = behind;
+        ended = record { flushed = x.is; kept = clears.0; empty = clears.1 };
+        is = record { at = x.at; kept = clears.0; journal = k'; keeps = x.keeps refl };
+      }
+
+  here : StandsHere before engine c.world
+  here = record { at = c.at; stands = c.stands }
+
   -- the tail is flushed
-  flushed_here : IsFinished state possible k' d' None c.world → IsFinished state possible k' d' None (begun_here c.world) → Answered HasFlushed o (all_lines given) c.replies (state d') (WasKept state possible)
-  flushed_here x y =
+  flushed_here : ((w : World) → StandsHere before engine w → IsFinished state possible k' d' None w) → Answered HasFlushed o (all_lines given) c.replies (state d') (KeepsOver state possible d') (WasKept state possible)
+  flushed_here finishes =
       let known = known_of engine.tier engine.doubt c.world c.stands.left in
+      let x = finishes c.world here in
       let behind = over_disk x.journal x.faults (state d').moment c.world in
       let clears = flush_clears c.world behind c.stands.kept x.is in
-      let by = over_disk y.journal y.faults (state d').moment (begun_here c.world) in
       record {
         ran = c.world;
         comes = c.comes;
         goes = c.goes;
+        since = since_map (StandsHere before engine) (EndsKept HasFlushed (state d') (KeepsOver state possible d')) (λ w at. ends_from w at (finishes w at)) o.world c.comes.given c.replies c.world c.comes.run c.since;
         last = behind;
-        ended = record {
-          flushed = x.is;
-          kept = clears.0;
-          empty = clears.1;
-          passes = record {
-            world = by;
-            flushed = y.is;
-            journal = k';
-            kept = (flush_clears (begun_here c.world) by c.stands.kept y.is).0;
-            over = record { site = d'; at = y.at; keeps = y.keeps refl };
-          };
-        };
+        ended = record { flushed = x.is; kept = clears.0; empty = clears.1 };
         at = x.at;
         slots = in_slots state possible d' k' behind clears.0 (x.keeps refl);
         legal = known.legal;
@@ -91,24 +99,24 @@ module _ {D : Type 0} (state : D → SiteState) (possible : D → ℕ → Held �
         read = known.read;
       }
 
-  pub finishes_flushed : (r : Result (Unit {0}) Stop) (waiting' : List ℕ) → (r ≡ Err stop.Disk → ⊥) → IsFinished state possible k' d' None c.world → IsFinished state possible k' d' None (begun_here c.world) → PassesReply r written written' waiting waiting' [] → OnOk r (waiting' ≡ [])
+  pub finishes_flushed : (r : Result (Unit {0}) Stop) (waiting' : List ℕ) → (r ≡ Err stop.Disk → ⊥) → ((w : World) → StandsHere before engine w → IsFinished state possible k' d' None w) → PassesReply r written written' waiting waiting' [] → OnOk r (waiting' ≡ [])
       → Finishes r o given (seen written' coming state possible d')
-  finishes_flushed (Ok done) waiting' sunk x y p none = record {
+  finishes_flushed (Ok done) waiting' sunk finishes p none = record {
     replies = c.replies;
-    answered = flushed_here x y;
+    answered = flushed_here finishes;
     tells = told_whole o.written written' (replies_bytes c.replies)
         (subst (λ (w : List ℕ). Splits (Some o.written) written' (replies_bytes c.replies) w) none
         (subst (λ (l : List ℕ). Splits (Some o.written) written' l waiting') (append-nil (replies_bytes c.replies)) (splits_then (Some o.written) written written' (replies_bytes c.replies) waiting [] waiting' c.passed p)));
   }
-  finishes_flushed (Err stop.Sink) waiting' sunk x y p none =
+  finishes_flushed (Err stop.Sink) waiting' sunk finishes p none =
       let b : Breaks (Some o.written) written' (replies_bytes c.replies) = subst (λ (l : List ℕ). Breaks (Some o.written) written' l) (append-nil (replies_bytes c.replies)) (breaks_then (Some o.written) written written' (replies_bytes c.replies) waiting [] c.passed p) in
       record {
         replies = c.replies;
-        answered = inr (inl (flushed_here x y));
+        answered = inr (inl (flushed_here finishes));
         count = b.count;
         tells = told_after o.written written' (take b.count (replies_bytes c.replies)) b.written;
       }
-  finishes_flushed (Err stop.Disk) waiting' sunk x y p none = absurd (sunk refl)
+  finishes_flushed (Err stop.Disk) waiting' sunk finishes p none = absurd (sunk refl)
 
   -- it couldn't be flushed
   broken_here : (reply : Reply) → IsFinished state possible k' d' (Some reply) c.world → EndBroken o (all_lines given) (c.replies ++ Some reply ∷ []) (state d') (WasKept state possible)
@@ -117,6 +125,7 @@ module _ {D : Type 0} (state : D → SiteState) (possible : D → ℕ → Held �
     ran = c.world;
     comes = c.comes;
     goes = c.goes;
+    since = since_map (StandsHere before engine) (WasKept state possible) (λ w x. kept_once state possible d engine.journal w x.at x.stands.keeps x.stands.kept) o.world c.comes.given c.replies c.world c.comes.run c.since;
     last = over_disk x.journal x.faults (state d').moment c.world;
     reply = reply;
     ended = x.is;

@@ -1,5 +1,5 @@
 -- The command `import`.
-use Rattle.std.proofs.Common.{◌≡◌, ◌⊎◌, ◌+◌, ◌-◌, ◌≤◌, ◌<◌, ℕ, List, [], ◌++◌, take, length, Option, Some, None, Result, Ok, Err, inl, inr, refl, sym, ◌∙◌, ap, arith, subst, append-nil, append_assoc}
+use Rattle.std.proofs.Common.{◌≡◌, ◌⊎◌, ◌+◌, ◌-◌, ◌≤◌, ◌<◌, ℕ, true, List, [], ◌∷◌, ◌++◌, take, length, Option, Some, None, Result, Ok, Err, inl, inr, refl, sym, ◌∙◌, ap, arith, subst, append-nil, append_assoc}
 use Rattle.std.proofs.lemmas.List.{length-append}
 use Rattle.std.specs.Io.KnownBytes.{Appends, Keeps}
 use Rattle.std.specs.Result.{OnOk}
@@ -9,6 +9,14 @@ use Rattle.cache_tier.specs.Replying.{reply_bytes}
 use Rattle.cache_tier.specs.TierStates.{Settings as TierSettings}
 use Rattle.cache_tier.specs.Worlds.{Tries, World}
 use Rattle.cache_tier.specs.declared.reply.Reply.{Reply}
+use Rattle.cache_tier.specs.Journals.{Journal}
+use Rattle.cache_tier.specs.TierStates.{Tier}
+use Rattle.evaluator.specs.declared.change.Change.{Change}
+use Rattle.kept_journal.specs.Keeping.{KeepsOver}
+use Rattle.propagators.specs.Certainty.{KeepsCertain}
+use Rattle.row_types.specs.declared.rule.Rule.{Rule}
+use Rattle.stored_tier.proofs.OverLaws.{keeps_called}
+use Rattle.tier_journal.specs.declared.journal.TierJournal.{TierJournal}
 use Rattle.stored_tier.specs.declared.tier.Tier.{Tier as Stored}
 use Rattle.stored_tier.specs.Performing.{StandsFor}
 use Rattle.stored_tier.specs.Sites.{IsAt, Serves}
@@ -18,12 +26,12 @@ use Rattle.session_engine.specs.declared.doubt.Doubt.{Doubt}
 use Rattle.tier_opening.specs.Telling.{FailsAs}
 use Rattle.tier_opening.specs.declared.opening.OpenError.{OpenError}
 use Rattle.tier_opening.specs.declared.opening.OpenError.TheVariants as open_error
-use Rattle.cache_engine.specs.Importing.{Imports}
+use Rattle.cache_engine.specs.Importing.{Imports, ImportsRead, inserts_for}
 use Rattle.cache_engine.specs.Opening.{OpensOver}
 use Rattle.cache_engine.specs.declared.engine.Engine.{Engine}
 use Rattle.session_cli.specs.declared.serving.Status.{Status}
 use Rattle.session_cli.specs.declared.serving.Status.TheVariants.{DiskFailed, InputTooLong, NoMemory, SchemaFailed, SourceFailed}
-use Rattle.session_cli.specs.Importing.{ImportEnds, ImportRuns, Imported, Puts, TakesAll, TellsImport}
+use Rattle.session_cli.specs.Importing.{ImportEnds, ImportRuns, Imported, ImportsNothing, Puts, TakesAll, TellsImport}
 use Rattle.session_cli.specs.Opening.{TellsWhy}
 use Rattle.session_cli.specs.Outside.{Outside, seen}
 use Rattle.session_cli.specs.Output.{Breaks, Passes, Splits}
@@ -32,6 +40,7 @@ use Rattle.session_cli.specs.Ends.{Taken}
 use Rattle.session_cli.proofs.EndsLaws.{TakeOf, kept_told, took}
 use Rattle.session_cli.proofs.OpeningLaws.{is_bank, is_disk, next_of, not_source, tells_memory}
 use Rattle.session_cli.proofs.OutputLaws.{breaks_flushed, splits_flushed}
+use Rattle.session_cli.proofs.SlotLaws.{in_slots}
 use Rattle.session_cli.proofs.ServingLaws.{take_rest}
 use Rattle.stored_tier.specs.declared.clock.Pace.{Pace}
 
@@ -93,16 +102,36 @@ pub puts_by : {E : Type 0} (r : Result (Unit {0}) E) (a b c : Option (List ℕ))
 puts_by (Ok done) a b c w w' w'' xs none p q empty = puts_all a c w xs none (splits_flushed a b c w w' w'' xs p q empty)
 puts_by (Err e) a b c w w' w'' xs none p q empty = puts_front a c w xs none (breaks_flushed a b c w w' xs p q)
 
-pub imported : {E : Type 0} (r : Result (Unit {0}) E) (word bytes_of input : List ℕ) (t : Stored) (before after : SiteState) (reply : Reply) (sink sink' : Option (List ℕ)) → bytes_of ≡ word → Serves t t before after (λ w w'. Tries (Imports bytes_of input) w w' reply) → Puts r sink sink' (reply_bytes (Some reply))
-    → (w : World) → IsAt before w → IsStoredAs t w.tier → Imported r word input w sink sink' after
-imported r word bytes_of input t before after reply sink sink' same serves puts w at stored =
-    let x = serves w at stored in
-    record { world = x.world; at = x.at; reply = reply; is = subst (λ (b : List ℕ). Tries (Imports b input) w x.world reply) same x.is; puts = puts }
+-- the journal and the tier stay
+pub imports_stay : (word bytes : List ℕ) (w w' : World) (reply : Reply) → Tries (Imports word bytes) w w' reply → (w'.journal ≡ w.journal) × (w'.tier ≡ w.tier)
+imports_stay word bytes w w' reply (inr q) = (ap (λ (x : World). x.journal) q.0, ap (λ (x : World). x.tier) q.0)
+imports_stay word bytes w w' reply (inl q) = by (inserts_for w.tier word bytes) q
+  where
+    by : (r : Result (List Change) Rule) → ImportsRead r w w' reply → (w'.journal ≡ w.journal) × (w'.tier ≡ w.tier)
+    by (Err rule) q = (ap (λ (x : World). x.journal) q.0, ap (λ (x : World). x.tier) q.0)
+    by (Ok []) q = (ap (λ (x : World). x.journal) q.0, ap (λ (x : World). x.tier) q.0)
+    by (Ok (change ∷ changes)) q = (q.call.journal, q.tier)
+
+module _ {D : Type 0} (state : D → SiteState) (possible : D → ℕ → Held → Type 0) where
+  pub imported : {E : Type 0} (r : Result (Unit {0}) E) (word bytes_of input : List ℕ) (t : Stored) (k : Option TierJournal) (d d' : D) (reply : Reply) (sink sink' : Option (List ℕ)) → bytes_of ≡ word → Serves t t (state d) (state d') (λ w w'. Tries (Imports bytes_of input) w w' reply)
+      → KeepsCertain state possible d d' → Puts r sink sink' (reply_bytes (Some reply))
+      → (w : World) → IsAt (state d) w → IsStoredAs t w.tier → KeepsOver state possible d k w → w.journal.kept ≡ true → Imported r word input w sink sink' (state d')
+  imported r word bytes_of input t k d d' reply sink sink' same serves certain puts w at stored keeps kept =
+      let x = serves w at stored in
+      let stay = imports_stay bytes_of input w x.world reply x.is in
+      record {
+        world = x.world;
+        at = x.at;
+        reply = reply;
+        is = subst (λ (b : List ℕ). Tries (Imports b input) w x.world reply) same x.is;
+        slots = in_slots state possible d' k x.world (ap (λ (j : Journal). j.kept) stay.0 ∙ kept) (keeps_called state possible k d d' w x.world keeps certain stay.0 (ap (λ (a : Tier). a.schema) stay.1) x.at);
+        puts = puts;
+      }
 
 -- only whether it went well counts
 pub imported_well : {E T : Type 0} (r : Result (Unit {0}) E) (done : Unit {0}) (word input bytes : List ℕ) (w : World) (sink sink' : Option (List ℕ)) (site : SiteState) → r ≡ Ok done → bytes ≡ input → Imported r word bytes w sink sink' site → Imported {E = T} (Ok tt) word input w sink sink' site
 imported_well (Ok d) done word input bytes w sink sink' site is same x =
-    record { world = x.world; at = x.at; reply = x.reply; is = subst (λ (b : List ℕ). Tries (Imports word b) w x.world x.reply) same x.is; puts = x.puts }
+    record { world = x.world; at = x.at; reply = x.reply; is = subst (λ (b : List ℕ). Tries (Imports word b) w x.world x.reply) same x.is; slots = x.slots; puts = x.puts }
 imported_well (Err e) done word input bytes w sink sink' site is same x = absurd (never is)
   where
     never : Err e ≡ Ok done → ⊥
@@ -114,7 +143,7 @@ imported_cut (Ok d) e word input bytes w sink sink' site is same x = absurd (nev
     never : Ok d ≡ Err e → ⊥
     never e = cc
 imported_cut (Err f) e word input bytes w sink sink' site is same x =
-    record { world = x.world; at = x.at; reply = x.reply; is = subst (λ (b : List ℕ). Tries (Imports word b) w x.world x.reply) same x.is; puts = x.puts }
+    record { world = x.world; at = x.at; reply = x.reply; is = subst (λ (b : List ℕ). Tries (Imports word b) w x.world x.reply) same x.is; slots = x.slots; puts = x.puts }
 
 -- THE ENGINE
 
@@ -154,9 +183,13 @@ import_not_source status sink sink' (open_error.Differs table key) tells is = no
 import_not_source status sink sink' open_error.Memory tells is = not_source status sink sink' open_error.Memory tells is
 
 module _ {D : Type 0} (state : D → SiteState) (possible : D → ℕ → Held → Type 0) where
+  -- nothing is done
+  pub imports_nothing : (d : D) (k : Option TierJournal) (w : World) (written : Option (List ℕ)) (coming : Coming) → IsAt (state d) w → KeepsOver state possible d k w → w.journal.kept ≡ true → (before : Outside) → before.written ≡ written → ImportsNothing w before (seen written coming state possible d)
+  imports_nothing d k w written coming at keeps kept before silent = record { at = at; slots = in_slots state possible d k w kept keeps; silent = sym silent }
+
   pub import_opened : (settings : TierSettings) (pace : Pace) (first : ℕ) (e : Engine) (status : Status) (word : List ℕ) (source source' written : Option (List ℕ)) (bases : Coming) (d m : D) (behind : Outside) → pace_of settings ≡ pace
       → IsNext (bases 0) first → OpensOver state possible first pace d m e → e.doubt ≡ None → (state d).bank_faults ≤ (state m).bank_faults → (state m).shared ≡ (state d).shared
-      → ((w : World) (input : List ℕ) → IsAt (state m) w → IsStoredAs e.tier w.tier → source ≡ Some input → ImportEnds status word input w (seen written bases state possible d) source' behind)
+      → ((w : World) (input : List ℕ) → IsAt (state m) w → IsStoredAs e.tier w.tier → KeepsOver state possible m e.journal w → w.journal.kept ≡ true → source ≡ Some input → ImportEnds status word input w (seen written bases state possible d) source' behind)
       → ImportRuns settings word status source (seen written bases state possible d) source' behind
   import_opened settings pace first e status word source source' written bases d m behind ms next opens doubt later shares ends = λ input there is_source is_site have may.
       let x = opens there settings is_site have may ms in
@@ -167,7 +200,9 @@ module _ {D : Type 0} (state : D → SiteState) (possible : D → ℕ → Held �
         world = x.world;
         opens = x.opens;
         kept = x.kept;
+        stands = stands.stands;
+        certain = stands.stored.doubt;
         later = let faults = x.at.faults in omega (arith, later, faults);
         shares = x.at.shared ∙ shares;
-        ended = ends x.world input x.at stands.stored is_source;
+        ended = ends x.world input x.at stands.stored x.keeps x.kept is_source;
       })

@@ -19,12 +19,14 @@ use Rattle.session_cli.specs.Ends.{Runs, Serves, takes_none}
 use Rattle.session_cli.specs.Opening.{TellsLine, TellsWhy, begins, unopened_line}
 use Rattle.session_cli.specs.Outside.{Outside, WasKept, seen}
 use Rattle.session_cli.specs.Output.{Breaks, Splits}
-use Rattle.session_cli.specs.Serving.{Serving, StandsIn, WasLeft}
+use Rattle.session_cli.specs.Serving.{LedSince, Serving, StandsHere, StandsIn, WasLeft}
 use Rattle.session_cli.specs.Timing.{AreLeft, Coming, IsNext}
 use Rattle.session_cli.proofs.CuttingLaws.{front_short}
 use Rattle.session_cli.proofs.OutputLaws.{breaks_then, splits_then}
 use Rattle.session_cli.proofs.ServingLaws.{take_rest}
 use Rattle.session_cli.proofs.SlotLaws.{in_slots}
+use Rattle.session_cli.proofs.WayLaws.{kept_once, stands_begun_at}
+use Rattle.kept_journal.specs.Beginning.{begun_here}
 use Rattle.stored_tier.specs.declared.clock.Pace.{Pace}
 use Rattle.stored_tier.specs.Stored.{pace_of}
 
@@ -87,7 +89,14 @@ bank_failed moment pace before behind why failed is = subst (FailsAs moment pace
 module _ {D : Type 0} (state : D → SiteState) (possible : D → ℕ → Held → Type 0) where
   -- the engine is left so in the world of the opening
   left_new : (settings : TierSettings) (first : ℕ) (there : Held) (d : D) (e : Engine) → IsInOrder e → (x : IsBegunOver state possible settings first there d e) → WasLeft (WasKept state possible) x.world
-  left_new settings first there d e order x = record { engine = e; order = order; left = x.left; kept = x.kept; over = record { site = d; at = x.at; keeps = x.keeps } }
+  left_new settings first there d e order x = record { engine = e; order = order; left = x.left; kept = x.kept; over = kept_once state possible d e.journal x.world x.at x.keeps x.kept }
+
+  -- and from it a way may begin
+  begins_new : (settings : TierSettings) (first : ℕ) (there : Held) (d : D) (e : Engine) (coming : Coming) (written : Option (List ℕ)) → IsInOrder e → (x : IsBegunOver state possible settings first there d e) → LedSince (StandsHere (seen written coming state possible d) e) x.world [] []
+  begins_new settings first there d e coming written order x =
+      let here : StandsHere (seen written coming state possible d) e x.world = record { at = x.at; stands = record { left = x.left; keeps = x.keeps; kept = x.kept; slots = in_slots state possible d e.journal x.world x.kept x.keeps } } in
+      let begun = stands_begun_at state possible written coming d e x.world here in
+      record { world = begun_here x.world; run = refl; goes = record { engine = e; order = order; left = begun.stands.left; kept = begun.stands.kept; over = tt }; is = begun }
 
   -- at the beginning nothing is given
   serving_new : (settings : TierSettings) (first : ℕ) (there : Held) (d : D) (e : Engine) (session : Session) (start : List ℕ) (bases coming : Coming) (written : Option (List ℕ)) → IsInOrder e → (x : IsBegunOver state possible settings first there d e)
@@ -99,6 +108,7 @@ module _ {D : Type 0} (state : D → SiteState) (possible : D → ℕ → Held �
     goes = left_new settings first there d e order x;
     at = x.at;
     stands = subst (λ y. StandsIn (seen written coming state possible d) y x.world) (sym engine) (record { left = x.left; keeps = x.keeps; kept = x.kept; slots = in_slots state possible d e.journal x.world x.kept x.keeps });
+    since = subst (λ y. LedSince (StandsHere (seen written coming state possible d) y) x.world [] []) (sym engine) (begins_new settings first there d e coming written order x);
     left = left;
     line = line ∙ sym (front_short [] (lit≤ tt));
     passed = record { count = 0; written = subst (λ w. Appends (Some start) w []) (sym told) (sym (append-nil start)); waits = output };

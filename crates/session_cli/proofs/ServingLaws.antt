@@ -4,6 +4,7 @@ use Rattle.std.specs.Io.KnownBytes.{Appends}
 use Rattle.cache_tier.specs.declared.reply.Reply.{Reply}
 use Rattle.cache_tier.specs.Replying.{reply_bytes, replies_bytes}
 use Rattle.cache_tier.specs.Worlds.{IsUnshared, World}
+use Rattle.kept_journal.specs.Beginning.{begun_here}
 use Rattle.kept_journal.specs.Keeping.{is_broken}
 use Rattle.cache_engine.specs.Requests.{Given}
 use Rattle.cache_engine.specs.declared.engine.Engine.{Engine}
@@ -16,11 +17,12 @@ use Rattle.session_cli.specs.declared.session.Session.{Session}
 use Rattle.session_cli.specs.Cutting.{cut, front_of, text_of, ended_lines, all_lines}
 use Rattle.session_cli.specs.Outside.{Outside}
 use Rattle.session_cli.specs.Output.{Splits, Breaks}
-use Rattle.session_cli.specs.Serving.{Answered, Broken, Closes, Closing, Comes, CutShort, Feeds, GoesOn, HasFlushed, IsLeftAlone, LineBroken, Origin, PassesReply, Responds, Rests, Serving, StandsIn, StopsAt, Whole}
+use Rattle.session_cli.specs.Serving.{Answered, Broken, Closes, Closing, Comes, CutShort, EndsKept, Feeds, GoesOn, HasFlushed, IsLeftAlone, LedSince, LedSinceEach, LineBroken, LineLeads, Origin, PassesReply, Responds, Rests, Serving, StandsHere, StandsIn, StopsAt, WasLeft, Whole}
 use Rattle.session_cli.proofs.CuttingLaws.{ended_push, rest_ended, ended_same, rest_push, front_push, front_short, text_front, take_one, take_within, all_ended, all_more}
 use Rattle.session_cli.proofs.DrainedLaws.{drained_of}
 use Rattle.session_cli.proofs.OutputLaws.{splits_then, breaks_then}
-use Rattle.session_cli.proofs.RunLaws.{CameOn, broken_on, comes_on, goes_then}
+use Rattle.session_cli.proofs.RunLaws.{CameOn, GoesOnFrom, broken_on, comes_on, goes_then, since_map}
+use Rattle.session_cli.proofs.WayLaws.{unshared_too}
 
 pub replies_push : (rs : List (Option Reply)) (r : Option Reply) → replies_bytes (rs ++ r ∷ []) ≡ replies_bytes rs ++ reply_bytes r
 replies_push [] r = append-nil (reply_bytes r)
@@ -40,15 +42,20 @@ take_rest (suc n) (x ∷ xs) none = ap (λ l. x ∷ l) (take_rest n xs none)
 pub told_whole : (start : List ℕ) (now : Option (List ℕ)) (bytes : List ℕ) → Splits (Some start) now bytes [] → now ≡ Some (start ++ bytes)
 told_whole start now bytes p = told_after start now (take p.count bytes) p.written ∙ ap (λ l. Some (start ++ l)) (take_rest p.count bytes (sym p.waits))
 
+-- nothing comes behind the lines
+rest_here : (now : Outside) (engine : Engine) (w : World) → StandsHere now engine w → EndsKept Rests now.site now.keeps w
+rest_here now engine w x = record { last = w; ended = refl; is = record { at = x.at; kept = x.stands.kept; journal = engine.journal; keeps = x.stands.keeps } }
+
 -- a run has led to a world in which the engine is left so
 pub answered_by : (o : Origin) (lines : List (List ℕ)) (replies : List (Option Reply)) (now : Outside) (engine : Engine) (w : World) (c : Comes o lines replies w) → GoesOn now.kept_once o.world c.given replies w c.run → IsAt now.site w
-    → StandsIn now engine w → Answered Rests o lines replies now.site now.kept_once
-answered_by o lines replies now engine w comes goes at stands =
+    → StandsIn now engine w → LedSinceEach (StandsHere now engine) o.world c.given replies w c.run → Answered Rests o lines replies now.site now.keeps now.kept_once
+answered_by o lines replies now engine w comes goes at stands since =
     let known = known_of engine.tier engine.doubt w stands.left in
     record {
       ran = w;
       comes = comes;
       goes = goes;
+      since = since_map (StandsHere now engine) (EndsKept Rests now.site now.keeps) (rest_here now engine) o.world comes.given replies w comes.run since;
       last = w;
       ended = refl;
       at = at;
@@ -61,42 +68,77 @@ answered_by o lines replies now engine w comes goes at stands =
 -- A LINE
 
 module _ (o : Origin) (given : List ℕ) (lines : List (List ℕ)) (before behind : Outside) (session : Session) (engine' : Engine) (waiting' line : List ℕ) where
-  -- the engine was left so behind each line
-  gone : (res : Result (Unit {0}) Stop) (s : Serving o given before session) → Responds res before behind session.output waiting' engine' s.world line → GoesOn behind.kept_once o.world s.comes.given s.replies s.world s.comes.run
-  gone res s r = goes_then before.kept_once behind.kept_once r.once o.world s.comes.given s.replies s.world s.comes.run s.goes
+  -- the line led on from each world in which the engine was left so
+  module _ (res : Result (Unit {0}) Stop) (s : Serving o given before session) (r : Responds res before behind session.output waiting' session.engine engine' line) (unshared : IsUnshared s.world) where
+    abbrev g : Given
+    g = record { base = r.base; bytes = line }
 
-  -- the run goes on by a line that was answered
-  came_line : (res : Result (Unit {0}) Stop) → ended_lines given ++ line ∷ [] ≡ lines → (s : Serving o given before session) → (r : Responds res before behind session.output waiting' engine' s.world line)
-      → is_broken r.reply ≡ false → CameOn behind.kept_once o lines (s.replies ++ r.reply ∷ []) r.world behind.coming
-  came_line res is s r whole =
-      let g : Given = record { base = r.base; bytes = line } in
-      comes_on behind.kept_once o (ended_lines given) lines s.replies s.world s.comes before.coming behind.coming g r.reply r.world is s.left r.took (goes_step r.base s.world line r.world r.reply whole r.goes) (gone res s r)
-      (record { unshared = r.unshared; whole = whole; was = r.was whole; passes = r.passes whole })
+    led : (v : World) → StandsHere before session.engine v → LineLeads behind engine' r.base line r.reply v
+    led v x = r.leads v x (unshared_too session.engine.tier session.engine.doubt s.world v s.stands.left x.stands.left (x.at.shared ∙ sym s.at.shared) unshared)
 
-  -- the ended lines and one more are answered
-  answered_line : (res : Result (Unit {0}) Stop) → ended_lines given ++ line ∷ [] ≡ lines → (s : Serving o given before session) → (r : Responds res before behind session.output waiting' engine' s.world line)
-      → is_broken r.reply ≡ false → Answered Rests o lines (s.replies ++ r.reply ∷ []) behind.site behind.kept_once
-  answered_line res is s r whole =
-      let came = came_line res is s r whole in
-      answered_by o lines (s.replies ++ r.reply ∷ []) behind engine' r.world came.comes came.goes r.at (r.stands whole)
+    leads_on : is_broken r.reply ≡ false → (v : World) → StandsHere before session.engine v → GoesOnFrom (StandsHere behind engine') g r.reply v
+    leads_on whole v x =
+        let l = led v x in
+        let stands = l.stands whole in
+        record {
+          world = l.world;
+          step = goes_step r.base v line l.world r.reply whole l.goes;
+          unshared = unshared_too session.engine.tier session.engine.doubt s.world v s.stands.left x.stands.left (x.at.shared ∙ sym s.at.shared) unshared;
+          was = record { engine = engine'; order = r.order; left = stands.left; kept = stands.kept; over = tt };
+          is = record { at = l.at; stands = stands };
+        }
 
-  -- or it was the last one
-  broken_line : (res : Result (Unit {0}) Stop) → ended_lines given ++ line ∷ [] ≡ lines → (s : Serving o given before session) → (r : Responds res before behind session.output waiting' engine' s.world line)
-      → is_broken r.reply ≡ true → LineBroken o lines (s.replies ++ r.reply ∷ []) behind.site behind.kept_once
-  broken_line res is s r fails =
-      let g : Given = record { base = r.base; bytes = line } in
-      let broke = broken_on behind.kept_once o (ended_lines given) lines s.replies s.world s.comes before.coming behind.coming g r.reply r.world is s.left r.took r.goes fails (gone res s r) r.unshared in
-      record {
-        last = r.world;
-        comes = broke.comes;
-        goes = broke.goes;
-        unshared = broke.unshared;
-        at = r.at;
-      }
+    here : StandsHere before session.engine s.world
+    here = record { at = s.at; stands = s.stands }
+
+    -- it ended in this world
+    led_here : LineLeads behind engine' r.base line r.reply s.world
+    led_here = led s.world here
+
+    -- from which a way may begin
+    begins_there : (whole : is_broken r.reply ≡ false) → LedSince (StandsHere behind engine') led_here.world [] []
+    begins_there whole =
+        let x = r.begins led_here.world (record { at = led_here.at; stands = led_here.stands whole }) in
+        record { world = begun_here led_here.world; run = refl; goes = record { engine = engine'; order = r.order; left = x.stands.left; kept = x.stands.kept; over = tt }; is = x }
+
+    was_there : is_broken r.reply ≡ false → WasLeft behind.kept_once led_here.world
+    was_there whole =
+        let stands = led_here.stands whole in
+        record { engine = engine'; order = r.order; left = stands.left; kept = stands.kept; over = r.now led_here.world (record { at = led_here.at; stands = stands }) }
+
+    gone : GoesOn behind.kept_once o.world s.comes.given s.replies s.world s.comes.run
+    gone = goes_then before.kept_once behind.kept_once r.once o.world s.comes.given s.replies s.world s.comes.run s.goes
+
+    -- the run goes on by a line that was answered
+    came_line : ended_lines given ++ line ∷ [] ≡ lines → is_broken r.reply ≡ false → CameOn (StandsHere behind engine') behind.kept_once o lines (s.replies ++ r.reply ∷ []) led_here.world behind.coming
+    unfolding leads_on led_here
+    came_line is whole =
+        comes_on (StandsHere before session.engine) (StandsHere behind engine') behind.kept_once o (ended_lines given) lines s.replies s.world s.comes before.coming behind.coming g r.reply is s.left r.took gone s.since whole (leads_on whole) (leads_on whole s.world here)
+        (was_there whole) (begins_there whole)
+
+    -- the ended lines and one more are answered
+    answered_line : ended_lines given ++ line ∷ [] ≡ lines → is_broken r.reply ≡ false → Answered Rests o lines (s.replies ++ r.reply ∷ []) behind.site behind.keeps behind.kept_once
+    answered_line is whole =
+        let came = came_line is whole in
+        answered_by o lines (s.replies ++ r.reply ∷ []) behind engine' led_here.world came.comes came.goes led_here.at (led_here.stands whole) came.since
+
+    -- or it was the last one
+    broken_line : ended_lines given ++ line ∷ [] ≡ lines → is_broken r.reply ≡ true → LineBroken o lines (s.replies ++ r.reply ∷ []) behind.site behind.kept_once
+    broken_line is fails =
+        let broke = broken_on behind.kept_once o (ended_lines given) lines s.replies s.world s.comes before.coming behind.coming g r.reply led_here.world is s.left r.took led_here.goes fails gone
+        (since_map (StandsHere before session.engine) behind.kept_once (λ v x. r.past v x) o.world s.comes.given s.replies s.world s.comes.run s.since) unshared in
+        record {
+          last = led_here.world;
+          comes = broke.comes;
+          goes = broke.goes;
+          since = broke.since;
+          unshared = broke.unshared;
+          at = led_here.at;
+        }
 
   -- the run stopped at it
-  stopped_line : (why : Stop) → ended_lines given ++ line ∷ [] ≡ lines → (s : Serving o given before session) → Responds (Err why) before behind session.output waiting' engine' s.world line → StopsAt why o lines behind
-  stopped_line stop.Sink is s r =
+  stopped_line : (why : Stop) → ended_lines given ++ line ∷ [] ≡ lines → (s : Serving o given before session) → Responds (Err why) before behind session.output waiting' session.engine engine' line → IsUnshared s.world → StopsAt why o lines behind
+  stopped_line stop.Sink is s r unshared =
       let b : Breaks (Some o.written) behind.written (replies_bytes s.replies ++ reply_bytes r.reply) = breaks_then (Some o.written) before.written behind.written (replies_bytes s.replies) session.output (reply_bytes r.reply) s.passed r.passed in
       record {
         replies = s.replies ++ r.reply ∷ [];
@@ -106,13 +148,13 @@ module _ (o : Origin) (given : List ℕ) (lines : List (List ℕ)) (before behin
       }
     where
       by : (b : Bool) → is_broken r.reply ≡ b
-          → Answered Rests o lines (s.replies ++ r.reply ∷ []) behind.site behind.kept_once
-          ⊎ (Answered HasFlushed o lines (s.replies ++ r.reply ∷ []) behind.site behind.kept_once ⊎ Broken o lines (s.replies ++ r.reply ∷ []) behind.site behind.kept_once)
-      by true e = inr (inr (inl (broken_line (Err stop.Sink) is s r e)))
-      by false e = inl (answered_line (Err stop.Sink) is s r e)
-  stopped_line stop.Disk is s r = record {
+          → Answered Rests o lines (s.replies ++ r.reply ∷ []) behind.site behind.keeps behind.kept_once
+          ⊎ (Answered HasFlushed o lines (s.replies ++ r.reply ∷ []) behind.site behind.keeps behind.kept_once ⊎ Broken o lines (s.replies ++ r.reply ∷ []) behind.site behind.kept_once)
+      by true e = inr (inr (inl (broken_line (Err stop.Sink) s r unshared is e)))
+      by false e = inl (answered_line (Err stop.Sink) s r unshared is e)
+  stopped_line stop.Disk is s r unshared = record {
     replies = s.replies ++ r.reply ∷ [];
-    broken = inl (broken_line (Err stop.Disk) is s r r.tells);
+    broken = inl (broken_line (Err stop.Disk) s r unshared is r.tells);
     tells = told_whole o.written behind.written (replies_bytes s.replies ++ reply_bytes r.reply) (splits_then (Some o.written) before.written behind.written (replies_bytes s.replies) session.output (reply_bytes r.reply) [] s.passed r.passed)
         ∙ ap (λ l. Some (o.written ++ l)) (sym (replies_push s.replies r.reply));
   }
@@ -126,18 +168,20 @@ ended_by given line session is front =
 -- a line feed came, and the reply was passed on
 pub serving_line : (o : Origin) (given : List ℕ) (before behind : Outside) (session session' : Session) (line : List ℕ)
     → line ≡ text_of session.line → session'.line ≡ [] → (s : Serving o given before session)
-    → Responds (Ok tt) before behind session.output session'.output session'.engine s.world line
+    → Responds (Ok tt) before behind session.output session'.output session.engine session'.engine line → IsUnshared s.world
     → Serving o (given ++ 10 ∷ []) behind session'
-serving_line o given before behind session session' line is empty s r =
+serving_line o given before behind session session' line is empty s r unshared =
     let lines = ended_by given line session is s.line in
-    let came = came_line o given (ended_lines (given ++ 10 ∷ [])) before behind session session'.engine session'.output line (Ok tt) lines s r r.tells in
+    let there = led_here o given (ended_lines (given ++ 10 ∷ [])) before behind session session'.engine session'.output line (Ok tt) s r unshared in
+    let came = came_line o given (ended_lines (given ++ 10 ∷ [])) before behind session session'.engine session'.output line (Ok tt) s r unshared lines r.tells in
     record {
-      world = r.world;
+      world = there.world;
       replies = s.replies ++ r.reply ∷ [];
       comes = came.comes;
       goes = came.goes;
-      at = r.at;
-      stands = r.stands r.tells;
+      at = there.at;
+      stands = there.stands r.tells;
+      since = came.since;
       left = came.left;
       line = empty ∙ sym (ap front_of (rest_ended given) ∙ front_short [] (lit≤ tt));
       passed = rw (replies_push s.replies r.reply) (splits_then (Some o.written) before.written behind.written (replies_bytes s.replies) session.output (reply_bytes r.reply) session'.output s.passed r.passed);
@@ -145,10 +189,10 @@ serving_line o given before behind session session' line is empty s r =
 
 -- a line feed came, and the run stopped at the line
 pub feeds_stopped : (why : Stop) (o : Origin) (given : List ℕ) (before behind : Outside) (session session' : Session) (engine' : Engine) (waiting' line : List ℕ)
-    → line ≡ text_of session.line → (s : Serving o given before session) → Responds (Err why) before behind session.output waiting' engine' s.world line
+    → line ≡ text_of session.line → (s : Serving o given before session) → Responds (Err why) before behind session.output waiting' session.engine engine' line → IsUnshared s.world
     → Feeds (Err why) o given (10 ∷ []) behind session'
-feeds_stopped why o given before behind session session' engine' waiting' line is s r =
-    (1, stopped_line o given (ended_lines (given ++ 10 ∷ [])) before behind session engine' waiting' line why (ended_by given line session is s.line) s r)
+feeds_stopped why o given before behind session session' engine' waiting' line is s r unshared =
+    (1, stopped_line o given (ended_lines (given ++ 10 ∷ [])) before behind session engine' waiting' line why (ended_by given line session is s.line) s r unshared)
 
 -- other lines of the same run
 comes_same : (o : Origin) (lines lines' : List (List ℕ)) (replies : List (Option Reply)) (w : World) → lines ≡ lines' → Comes o lines replies w → Comes o lines' replies w
@@ -168,6 +212,7 @@ serving_byte o given b now session session' differs tier line output s = record 
   goes = s.goes;
   at = s.at;
   stands = subst (λ e. StandsIn now e s.world) (sym tier) s.stands;
+  since = subst (λ e. LedSinceEach (StandsHere now e) o.world s.comes.given s.replies s.world s.comes.run) (sym tier) s.since;
   left = s.left;
   line = line ∙ ap (λ l. front_of (l ++ b ∷ [])) s.line ∙ front_push (cut given).1 b ∙ sym (ap front_of (rest_push given b differs));
   passed = rw output s.passed;
@@ -187,8 +232,8 @@ serving_more o given bytes i now session lt s =
     subst (λ (l : List ℕ). Serving o l now session) (append_assoc given (take i bytes) (get_or bytes i 0 ∷ []) ∙ ap (λ l. given ++ l) (take_one bytes i lt)) s
 
 -- the ended lines are answered
-pub answered_here : (o : Origin) (given : List ℕ) (now : Outside) (session : Session) → (s : Serving o given now session) → Answered Rests o (ended_lines given) s.replies now.site now.kept_once
-answered_here o given now session s = answered_by o (ended_lines given) s.replies now session.engine s.world s.comes s.goes s.at s.stands
+pub answered_here : (o : Origin) (given : List ℕ) (now : Outside) (session : Session) → (s : Serving o given now session) → Answered Rests o (ended_lines given) s.replies now.site now.keeps now.kept_once
+answered_here o given now session s = answered_by o (ended_lines given) s.replies now session.engine s.world s.comes s.goes s.at s.stands s.since
 
 pub take_whole : (xs : List ℕ) → take (length xs) xs ≡ xs
 take_whole [] = refl
@@ -209,6 +254,10 @@ serving_end o given bytes i now session le s = subst (λ (l : List ℕ). Serving
 
 -- WHAT WAITED IS WRITTEN
 
+-- the site is as it was
+written_too : (before : Outside) (written : Option (List ℕ)) (e : Engine) (w : World) → StandsHere before e w → StandsHere (record before { written = written }) e w
+written_too before written e w x = record { at = x.at; stands = record { left = x.stands.left; keeps = x.stands.keeps; kept = x.stands.kept; slots = x.stands.slots } }
+
 pub serving_flushed : (r : Result (Unit {0}) Stop) (o : Origin) (given bytes : List ℕ) (before : Outside) (written : Option (List ℕ)) (session session' : Session)
     → session'.engine ≡ session.engine → session'.line ≡ session.line → (r ≡ Err stop.Disk → ⊥)
     → Serving o (given ++ bytes) before session → PassesReply r before.written written session.output session'.output []
@@ -220,6 +269,9 @@ serving_flushed (Ok done) o given bytes before written session session' tier lin
   goes = s.goes;
   at = s.at;
   stands = subst (λ e. StandsIn (record before { written = written }) e s.world) (sym tier) (record { left = s.stands.left; keeps = s.stands.keeps; kept = s.stands.kept; slots = s.stands.slots });
+  since =
+      subst (λ e. LedSinceEach (StandsHere (record before { written = written }) e) o.world s.comes.given s.replies s.world s.comes.run) (sym tier)
+      (since_map (StandsHere before session.engine) (StandsHere (record before { written = written }) session.engine) (written_too before written session.engine) o.world s.comes.given s.replies s.world s.comes.run s.since);
   left = s.left;
   line = line ∙ s.line;
   passed = subst (λ (l : List ℕ). Splits (Some o.written) written l session'.output) (append-nil (replies_bytes s.replies))
@@ -258,29 +310,32 @@ closes_ended o given now session none s = record {
   goes = s.goes;
   at = s.at;
   stands = s.stands;
+  since = s.since;
   passed = s.passed;
 }
 
 -- the last line is answered
 pub closes_line : (r : Result (Unit {0}) Stop) (o : Origin) (given : List ℕ) (before behind : Outside) (session : Session) (engine' : Engine) (waiting' line : List ℕ)
     → line ≡ session.line → session.line ≢ [] → (s : Serving o given before session)
-    → Responds r before behind session.output waiting' engine' s.world line
+    → Responds r before behind session.output waiting' session.engine engine' line → IsUnshared s.world
     → Closes r o given behind engine' waiting'
-closes_line (Ok done) o given before behind session engine' waiting' line is some s p =
+closes_line (Ok done) o given before behind session engine' waiting' line is some s p unshared =
     let lines = sym (all_more given line (is ∙ s.line) (λ none. some (sym is ∙ none))) in
-    let came = came_line o given (all_lines given) before behind session engine' waiting' line (Ok done) lines s p p.tells in
+    let there = led_here o given (all_lines given) before behind session engine' waiting' line (Ok done) s p unshared in
+    let came = came_line o given (all_lines given) before behind session engine' waiting' line (Ok done) s p unshared lines p.tells in
     record {
-      world = p.world;
+      world = there.world;
       replies = s.replies ++ p.reply ∷ [];
       comes = came.comes;
       goes = came.goes;
-      at = p.at;
-      stands = p.stands p.tells;
+      at = there.at;
+      stands = there.stands p.tells;
+      since = came.since;
       passed = rw (replies_push s.replies p.reply) (splits_then (Some o.written) before.written behind.written (replies_bytes s.replies) session.output (reply_bytes p.reply) waiting' s.passed p.passed);
     }
-closes_line (Err why) o given before behind session engine' waiting' line is some s p =
+closes_line (Err why) o given before behind session engine' waiting' line is some s p unshared =
     let lines = sym (all_more given line (is ∙ s.line) (λ none. some (sym is ∙ none))) in
-    stopped_line o given (all_lines given) before behind session engine' waiting' line why lines s p
+    stopped_line o given (all_lines given) before behind session engine' waiting' line why lines s p unshared
 
 -- WHAT IS LEFT ALONE
 

@@ -1,11 +1,16 @@
 -- A way of the journal begins between two lines.
-use Rattle.std.proofs.Common.{◌≡◌, ℕ, Option, Some, None, length, sym, ap}
+use Rattle.std.proofs.Common.{◌≡◌, ℕ, List, true, Option, Some, None, length, sym, ap, ◌∙◌}
 use Rattle.table_state.specs.declared.operation.Op.{Op}
 use Rattle.outside.specs.Holding.{Held}
 use Rattle.outside.specs.Sites.{SiteState}
 use Rattle.cache_tier.specs.Journals.{Journal}
 use Rattle.cache_tier.specs.WayPoints.{with_way}
-use Rattle.cache_tier.specs.Worlds.{World}
+use Rattle.cache_tier.specs.Groups.{is_table_of, is_writethrough}
+use Rattle.cache_tier.specs.TierStates.{Tier}
+use Rattle.cache_tier.specs.Worlds.{IsUnshared, World}
+use Rattle.cache_engine.specs.declared.engine.Engine.{Engine}
+use Rattle.cache_engine.proofs.WritingLaws.{written_seen}
+use Rattle.outside.specs.Others.{is_shared}
 use Rattle.tier_journal.specs.declared.journal.TierJournal.{TierJournal}
 use Rattle.kept_journal.specs.Beginning.{begun_here}
 use Rattle.kept_journal.specs.Keeping.{KeepsOver}
@@ -18,6 +23,10 @@ use Rattle.session_engine.specs.declared.doubt.Doubt.{Doubt}
 use Rattle.session_engine.specs.declared.doubt.Doubted.{Doubted}
 use Rattle.session_engine.specs.declared.doubt.Doubted.TheVariants.{Commit, PassedWrite}
 use Rattle.session_engine.specs.Doubting.{CommitIsInDoubt, IsInDoubt, IsLeft, WriteIsInDoubt}
+use Rattle.session_cli.specs.Outside.{WasKept, seen}
+use Rattle.session_cli.specs.Serving.{StandsHere}
+use Rattle.session_cli.specs.Timing.{Coming}
+use Rattle.session_cli.proofs.SlotLaws.{in_slots}
 
 pub at_begun : (site : SiteState) (w : World) → IsAt site w → IsAt site (begun_here w)
 at_begun site w at = record { there = at.there; told = at.told; history = at.history; faults = at.faults; moment = at.moment; shared = at.shared }
@@ -87,3 +96,37 @@ in_doubt_begun PassedWrite t d w x = write_begun t d w x
 pub left_begun : (t : Stored) (doubt : Option Doubt) (w : World) → IsLeft t doubt w → IsLeft t doubt (begun_here w)
 left_begun t None w x = stands_begun t w x
 left_begun t (Some d) w x = in_doubt_begun d.of t d w x
+
+-- ---- where the engine is left so at a site
+
+module _ {D : Type 0} (state : D → SiteState) (possible : D → ℕ → Held → Type 0) where
+  -- a way may begin there
+  pub stands_begun_at : (written : Option (List ℕ)) (coming : Coming) (d : D) (e : Engine) (w : World) → StandsHere (seen written coming state possible d) e w → StandsHere (seen written coming state possible d) e (begun_here w)
+  stands_begun_at written coming d e w x =
+      let keeps = keeps_begun state possible d e.journal w x.at x.stands.keeps in
+      record {
+        at = at_begun (state d) w x.at;
+        stands = record {
+          left = left_begun e.tier e.doubt w x.stands.left;
+          keeps = keeps;
+          kept = x.stands.kept;
+          slots = in_slots state possible d e.journal (begun_here w) x.stands.kept keeps;
+        };
+      }
+
+  -- a journal was kept over the disk
+  pub kept_once : (d : D) (k : Option TierJournal) (w : World) → IsAt (state d) w → KeepsOver state possible d k w → w.journal.kept ≡ true → WasKept state possible w
+  kept_once d k w at keeps kept = record { site = d; is = record { at = at; kept = kept; journal = k; keeps = keeps } }
+
+-- In all worlds at one site in which a tier is left so, others change no table of a writethrough group where they change
+-- none in one of them.
+apart_in_doubt : (of : Doubted) (t : Stored) (d : Doubt) (w : World) → IsInDoubt of t d w → IsUnshared w
+apart_in_doubt (Commit ops) t d w x table e =
+    ap (λ (a : Tier). is_table_of is_writethrough a.groups table) x.tier ∙ x.unshared table (sym (ap (λ s. is_shared s table) x.call.shared) ∙ e)
+apart_in_doubt PassedWrite t d w x table e =
+    ap (λ (a : Tier). is_table_of is_writethrough a.groups table) x.tier ∙ x.unshared table (sym (ap (λ s. is_shared s table) x.call.shared) ∙ e)
+
+pub unshared_too : (t : Stored) (doubt : Option Doubt) (w v : World) → IsLeft t doubt w → IsLeft t doubt v → v.shared ≡ w.shared → IsUnshared w → IsUnshared v
+unshared_too t None w v x y same apart table e =
+    sym (written_seen v.tier.groups table) ∙ ap (λ gs. is_table_of is_writethrough gs table) (y.stored.groups ∙ sym x.stored.groups) ∙ written_seen w.tier.groups table ∙ apart table (sym (ap (λ s. is_shared s table) same) ∙ e)
+unshared_too t (Some d) w v x y same apart table e = apart_in_doubt d.of t d v y table e

@@ -5,7 +5,7 @@ use Rattle.outside.specs.Holding.{Held}
 use Rattle.command_line.specs.declared.command.Command.{Command}
 use Rattle.command_line.specs.Keys.{AreBad}
 use Rattle.command_line.specs.Words.{Asks, Refuses}
-use Rattle.commit_journal.specs.Opening.{HaveBytes}
+use Rattle.commit_journal.specs.Layout.{HaveBytes}
 use Rattle.cache_tier.specs.TierStates.{Settings as TierSettings}
 use Rattle.cache_tier.specs.Worlds.{World}
 use Rattle.cache_engine.specs.Opening.{Opens}

@@ -1,12 +1,13 @@
 -- What `import` means: the rows of a CSV file go into a backing table. (This project's rule.)
 
-use Rattle.std.specs.Prelude.{◌≡◌, ◌≤◌, ◌⊎◌, ℕ, List, [], Option, Some, true, Result, Ok, Err, take}
+use Rattle.std.specs.Prelude.{◌≡◌, ◌≤◌, ◌⊎◌, ℕ, List, [], Option, Some, None, true, Result, Ok, Err, take}
 use Rattle.std.specs.Io.KnownBytes.{Appends}
 use Rattle.outside.specs.Holding.{Held}
 use Rattle.outside.specs.Sites.{SiteState}
-use Rattle.commit_journal.specs.Opening.{HaveBytes}
+use Rattle.commit_journal.specs.Layout.{HaveBytes}
 use Rattle.stored_tier.specs.Sites.{IsAt}
 use Rattle.cache_tier.specs.Replying.{reply_bytes}
+use Rattle.cache_tier.specs.StandingBetween.{Stands}
 use Rattle.cache_tier.specs.TierStates.{Settings as TierSettings}
 use Rattle.cache_tier.specs.Worlds.{Tries, World}
 use Rattle.cache_tier.specs.declared.reply.Reply.{Reply}
@@ -23,7 +24,7 @@ use Rattle.session_cli.specs.declared.serving.Status.TheVariants.{SchemaFailed, 
 use Rattle.session_cli.specs.declared.serving.Status.TheVariants.{Differs, InputTooLong}
 use Rattle.session_cli.specs.Ends.{Taken}
 use Rattle.session_cli.specs.Opening.{TellsWhy}
-use Rattle.session_cli.specs.Outside.{Outside}
+use Rattle.session_cli.specs.Outside.{IsInSlots, Outside}
 use Rattle.session_cli.specs.Timing.{IsNext}
 
 -- where no engine is opened a line says why, as in a run; but of a failed call of the journal's disk nothing is written
@@ -53,13 +54,14 @@ Puts (Ok done) sink sink' bytes = Appends sink sink' bytes
 Puts (Err e) sink sink' bytes = (count : ℕ) × Appends sink sink' (take count bytes)
 
 -- The rows of the file went into the table of the word by a step of the console, or were refused. The reply is written,
--- or a front of it.
+-- or a front of it. The journal is in the slots of the site.
 pub record Imported {E : Type 0} (result : Result (Unit {0}) E) (word input : List ℕ) (w : World)
     (sink sink' : Option (List ℕ)) (site : SiteState) : Type 0 where
   pub world : World
   pub at : IsAt site world
   pub reply : Reply
   pub is : Tries (Imports word input) w world reply
+  pub slots : IsInSlots site world
   pub puts : Puts result sink sink' (reply_bytes (Some reply))
 
 -- the whole source was taken, and its rows were imported
@@ -71,6 +73,7 @@ pub record ImportedAll {E : Type 0} (result : Result (Unit {0}) E) (word input :
 -- nothing is done in the opened world, and nothing is written
 pub record ImportsNothing (w : World) (before behind : Outside) : Type 0 where
   pub at : IsAt behind.site w
+  pub slots : IsInSlots behind.site w
   pub silent : behind.written ≡ before.written
 
 -- the same, where a front of the source was taken: less than the limit, or that much
@@ -93,7 +96,7 @@ ImportEnds Damaged word input w before source behind = ⊥
 ImportEnds Differs word input w before source behind = ⊥
 
 -- An engine was opened, which may raise counts of faults, and in which transactions of others may come. In the world
--- that this leaves the rows were imported, or nothing was done.
+-- that this leaves the tier stands, and no ticket is in doubt. There the rows were imported, or nothing was done.
 pub record OpenedAndImported (status : Status) (settings : TierSettings) (there : Held) (word input : List ℕ)
     (before : Outside) (source : Option (List ℕ)) (behind : Outside) : Type 0 where
   pub first : ℕ
@@ -101,6 +104,8 @@ pub record OpenedAndImported (status : Status) (settings : TierSettings) (there 
   pub world : World
   pub opens : Opens settings first there world
   pub kept : world.journal.kept ≡ true
+  pub stands : Stands world
+  pub certain : world.tier.doubt ≡ None
   pub later : before.site.bank_faults ≤ world.bank_faults
   pub shares : world.shared ≡ before.site.shared
   pub ended : ImportEnds status word input world before source behind

@@ -1,6 +1,6 @@
 -- What is seen of the outside before or behind a call. (This project's model.)
 
-use Rattle.std.specs.Prelude.{◌≡◌, ℕ, List, Option, Some}
+use Rattle.std.specs.Prelude.{◌≡◌, ℕ, List, Option, Some, true}
 use Rattle.outside.specs.Holding.{Held}
 use Rattle.outside.specs.Sites.{SiteState}
 use Rattle.cache_tier.specs.Worlds.{World}
@@ -14,21 +14,26 @@ use Rattle.session_cli.specs.Timing.{Coming}
 abbrev pub Keeping : Type 1
 Keeping = Option TierJournal → World → Type 0
 
--- In some state of the site a world was there, and the journal was kept over its disk.
-pub record WasKept {D : Type 0} (state : D → SiteState) (possible : D → ℕ → Held → Type 0) (k : Option TierJournal)
-    (w : World) : Type 0 where
+-- The world is at a site, and a journal is kept over its disk.
+pub record IsKeptNow (site : SiteState) (keeping : Keeping) (w : World) : Type 0 where
+  pub at : IsAt site w
+  pub kept : w.journal.kept ≡ true
+  pub journal : Option TierJournal
+  pub keeps : keeping journal w
+
+-- so it was in some state of the site
+pub record WasKept {D : Type 0} (state : D → SiteState) (possible : D → ℕ → Held → Type 0) (w : World) : Type 0 where
   pub site : D
-  pub at : IsAt (state site) w
-  pub keeps : KeepsOver state possible site k w
+  pub is : IsKeptNow (state site) (KeepsOver state possible site) w
 
 -- what the sink holds, where it tells that; what the clock will answer; the site; which journal is kept over its disk
--- in a world; and which was kept over it at some time
+-- in a world; and in which worlds one was at some time
 pub record Outside : Type 1 where
   pub written : Option (List ℕ)
   pub coming : Coming
   pub site : SiteState
   pub keeps : Keeping
-  pub kept_once : Keeping
+  pub kept_once : World → Type 0
 
 abbrev pub seen : {D : Type 0} → Option (List ℕ) → Coming → (D → SiteState) → (D → ℕ → Held → Type 0) → D → Outside
 seen written coming state possible d =

@@ -18,14 +18,13 @@ use Rattle.cache_engine.specs.Engines.{IsInOrder}
 use Rattle.cache_engine.specs.Requests.{BrokenRun, Given, LineGoes, LineRun}
 use Rattle.cache_engine.specs.declared.engine.Engine.{Engine}
 use Rattle.stored_tier.specs.Sites.{IsAt}
-use Rattle.tier_journal.specs.declared.journal.TierJournal.{TierJournal}
 use Rattle.outside.specs.Sites.{SiteState}
 use Rattle.session_cli.specs.declared.answering.Stop.{Stop}
 use Rattle.session_cli.specs.declared.answering.Stop.TheVariants as stop
 use Rattle.session_cli.specs.declared.session.Session.{Session}
 use Rattle.session_cli.specs.Cutting.{cut, front_of, ended_lines, all_lines}
 use Rattle.session_cli.specs.Output.{Breaks, Splits}
-use Rattle.session_cli.specs.Outside.{IsInSlots, Keeping, Outside}
+use Rattle.session_cli.specs.Outside.{IsInSlots, IsKeptNow, Keeping, Outside}
 use Rattle.session_cli.specs.Timing.{AreLeft, AreTimed, Coming, TakesBase}
 
 -- Where a run begins: a world, what the sink holds, and what moments are counted from. The first of these is the
@@ -55,34 +54,47 @@ pub record ComesBroken (o : Origin) (lines : List (List ℕ)) (replies : List (O
   pub timed : AreTimed o.bases 1 given asked
   pub run : BrokenRun o.world given replies w
 
--- Between two lines: an engine in order was left so in this world, and its journal was kept over the disk of the site
--- as that was then.
-pub record WasLeft (once : Keeping) (w : World) : Type 0 where
+-- Between two lines: an engine in order was left so in this world, in which this was so; and the world keeps a journal.
+pub record WasLeft (once : World → Type 0) (w : World) : Type 0 where
   pub engine : Engine
   pub order : IsInOrder engine
   pub left : IsLeft engine.tier engine.doubt w
   pub kept : w.journal.kept ≡ true
-  pub over : once engine.journal w
-
--- What a crash leaves at the moments of a line: the line leads with its reply from the same world, in which a way of the
--- journal begins, to one in which the engine was left so. Its journal was kept over the disk there, so at each moment since
--- the line began a crash leaves a point of that way (LeavesOnWay).
-pub record PassesBy (once : Keeping) (base : ℕ) (w : World) (line : List ℕ) (reply : Option Reply) : Type 0 where
-  pub world : World
-  pub goes : LineGoes base (begun_here w) line world reply
-  pub was : WasLeft once world
+  pub over : once w
 
 -- So it was in the world in which a run begins, and in the world behind each of its lines. Where a line begins others
--- change no table of a writethrough group, and its reply tells no failed call of the journal's disk. What a crash leaves
--- at its moments is told.
-abbrev pub GoesOn : Keeping → (w : World) (lines : List Given) (replies : List (Option Reply)) (w' : World)
+-- change no table of a writethrough group, and its reply tells no failed call of the journal's disk.
+abbrev pub GoesOn : (World → Type 0) → (w : World) (lines : List Given) (replies : List (Option Reply)) (w' : World)
     → LineRun w lines replies w' → Type 0
 GoesOn once w [] [] w' run = WasLeft once w'
 GoesOn once w [] (reply ∷ replies) w' run = ⊥
 GoesOn once w (g ∷ lines) [] w' run = ⊥
 GoesOn once w (g ∷ lines) (reply ∷ replies) w' run =
     WasLeft once w × IsUnshared w × (is_broken reply ≡ false) × GoesOn once run.0 lines replies w' run.2
-    × PassesBy once g.base w g.bytes reply
+
+-- nothing is asked of a world
+abbrev pub Anywhere : World → Type 0
+Anywhere w = Unit {0}
+
+-- The lines lead with these replies from the same world, in which a way of the journal begins, to one of which this
+-- holds. Where it says that the journal is kept over the site's disk, a crash leaves a point of that way (LeavesOnWay),
+-- at each moment since these lines began.
+pub record LedSince (holds : World → Type 0) (w : World) (lines : List Given) (replies : List (Option Reply))
+    : Type 0 where
+  pub world : World
+  pub run : LineRun (begun_here w) lines replies world
+  pub goes : GoesOn Anywhere (begun_here w) lines replies world run
+  pub is : holds world
+
+-- so it is since the run began, since each of its lines did, and since the last one ended
+abbrev pub LedSinceEach : (World → Type 0)
+    → (w : World) (lines : List Given) (replies : List (Option Reply)) (w' : World)
+    → LineRun w lines replies w' → Type 0
+LedSinceEach holds w [] [] w' run = LedSince holds w' [] []
+LedSinceEach holds w [] (reply ∷ replies) w' run = ⊥
+LedSinceEach holds w (g ∷ lines) [] w' run = ⊥
+LedSinceEach holds w (g ∷ lines) (reply ∷ replies) w' run =
+    LedSince holds w (g ∷ lines) (reply ∷ replies) × LedSinceEach holds run.0 lines replies w' run.2
 
 -- Others change no table of a writethrough group: at no end of a line of these bytes, in whatever run, is such a group
 -- over a table that others change.
@@ -98,6 +110,11 @@ pub record StandsIn (now : Outside) (e : Engine) (w : World) : Type 0 where
   pub keeps : now.keeps e.journal w
   pub kept : w.journal.kept ≡ true
   pub slots : IsInSlots now.site w
+
+-- so it is in a world at the site
+pub record StandsHere (now : Outside) (e : Engine) (w : World) : Type 0 where
+  pub at : IsAt now.site w
+  pub stands : StandsIn now e w
 
 -- what waits and the last reply of a run are written; or a front of both, where the sink failed
 abbrev pub WritesLast : Stop → Option (List ℕ) → Option (List ℕ) → List ℕ → List ℕ → Type 0
@@ -116,21 +133,30 @@ TellsFault (Ok done) reply = is_broken reply ≡ false
 TellsFault (Err stop.Sink) reply = Unit {0}
 TellsFault (Err stop.Disk) reply = is_broken reply ≡ true
 
--- One line was answered in this world, in which others change no table of a writethrough group: its base was taken, the
--- request was served, and its reply passed on to the sink. What was kept over the site's disk at some time was so.
+-- A line led from a world, by its reply, to one at the site behind. Unless a failed call of the journal's disk is told,
+-- the engine is left so there.
+pub record LineLeads (behind : Outside) (engine' : Engine) (base : ℕ) (line : List ℕ) (reply : Option Reply) (w : World)
+    : Type 0 where
+  pub world : World
+  pub at : IsAt behind.site world
+  pub goes : LineGoes base w line world reply
+  pub stands : is_broken reply ≡ false → StandsIn behind engine' world
+
+-- One line was answered: its base was taken, the request was served, and its reply passed on to the sink. So it led
+-- from each world at the site before in which the engine was left so, and others change no table of a writethrough
+-- group. Where the engine was or is left so, a journal was kept over the site's disk at some time, as it was where it
+-- was so before; and where it is left so now a way of the journal may begin.
 pub record Responds (result : Result (Unit {0}) Stop) (before behind : Outside) (waiting waiting' : List ℕ)
-    (engine' : Engine) (w : World) (line : List ℕ) : Type 0 where
+    (engine engine' : Engine) (line : List ℕ) : Type 0 where
   pub base : ℕ
   pub took : TakesBase line before.coming behind.coming base
   pub reply : Option Reply
-  pub unshared : IsUnshared w
-  pub once : (k : Option TierJournal) (v : World) → before.kept_once k v → behind.kept_once k v
-  pub world : World
-  pub at : IsAt behind.site world
-  pub stands : is_broken reply ≡ false → StandsIn behind engine' world
-  pub was : is_broken reply ≡ false → WasLeft behind.kept_once world
-  pub passes : is_broken reply ≡ false → PassesBy behind.kept_once base w line reply
-  pub goes : LineGoes base w line world reply
+  pub order : IsInOrder engine'
+  pub leads : (w : World) → StandsHere before engine w → IsUnshared w → LineLeads behind engine' base line reply w
+  pub once : (w : World) → before.kept_once w → behind.kept_once w
+  pub past : (w : World) → StandsHere before engine w → behind.kept_once w
+  pub now : (w : World) → StandsHere behind engine' w → behind.kept_once w
+  pub begins : (w : World) → StandsHere behind engine' w → StandsHere behind engine' (begun_here w)
   pub tells : TellsFault result reply
   pub passed : PassesReply result before.written behind.written waiting waiting' (reply_bytes reply)
 
@@ -146,7 +172,7 @@ pub record IsStopCaused (why : Stop) (before now : ℕ) (result : Stop) : Type 0
 
 -- After the bytes given: each line that ended is answered, a front of the replies is written and the others wait, and
 -- of the line that hasn't ended the session keeps the front. The engine is left so in the world to which the run has
--- led.
+-- led, and in those to which its lines have led since each of them began.
 pub record Serving (o : Origin) (given : List ℕ) (now : Outside) (session : Session) : Type 0 where
   pub world : World
   pub replies : List (Option Reply)
@@ -154,43 +180,42 @@ pub record Serving (o : Origin) (given : List ℕ) (now : Outside) (session : Se
   pub goes : GoesOn now.kept_once o.world comes.given replies world comes.run
   pub at : IsAt now.site world
   pub stands : StandsIn now session.engine world
+  pub since : LedSinceEach (StandsHere now session.engine) o.world comes.given replies world comes.run
   pub left : AreLeft o.bases comes.asked now.coming
   pub line : session.line ≡ front_of (cut given).1
   pub passed : Splits (Some o.written) now.written (replies_bytes replies) session.output
 
 -- nothing comes behind the last line
-abbrev pub Rests : Keeping → World → World → Type 0
-Rests once w w' = w' ≡ w
+abbrev pub Rests : World → World → Type 0
+Rests w w' = w' ≡ w
 
--- What a crash leaves at the moments of the flush behind the last line: it leads from the same world, in which a way of
--- the journal begins, to one over whose disk the journal was kept.
-pub record FlushesBy (once : Keeping) (w : World) : Type 0 where
-  pub world : World
-  pub flushed : tier_steps.Finishes (begun_here w) world None
-  pub journal : Option TierJournal
-  pub kept : world.journal.kept ≡ true
-  pub over : once journal world
-
--- The tail of the journal is flushed behind the last line, and nothing waits in it. What a crash leaves meanwhile is told.
-pub record HasFlushed (once : Keeping) (w w' : World) : Type 0 where
+-- The tail of the journal is flushed behind the last line, and nothing waits in it.
+pub record HasFlushed (w w' : World) : Type 0 where
   pub flushed : tier_steps.Finishes w w' None
   pub kept : w'.journal.kept ≡ true
   pub empty : w'.journal.tail ≡ []
-  pub passes : FlushesBy once w
+
+-- What comes behind the last line leads to a world at the site, over whose disk a journal is kept.
+pub record EndsKept (ends : World → World → Type 0) (site : SiteState) (keeps : Keeping) (w : World) : Type 0 where
+  pub last : World
+  pub ended : ends w last
+  pub is : IsKeptNow site keeps last
 
 -- These are the replies of a run over the lines, behind each of which the engine was left so. At its end, behind what
--- comes there, the site is as the run's last world says, whose journal is kept in its slots. There each committed
--- transaction stands once at most, and conflicting ones in commit order; where nothing is in doubt and nothing
--- unsettled, as behind a ttDrain that succeeded, each stands once, and the tables of each writethrough group are what
--- all of its transactions make in commit order; and the READONLY groups of one set that have something to show have one
--- position.
-pub record Answered (ends : Keeping → World → World → Type 0) (o : Origin) (lines : List (List ℕ))
-    (replies : List (Option Reply)) (site : SiteState) (once : Keeping) : Type 0 where
+-- comes there, the site is as the run's last world says, whose journal is kept in its slots; and over its disk a
+-- journal is kept in the worlds to which the lines have led since each of them began, so that what a crash has left at
+-- each moment since is told. At the end each committed transaction stands once at most, and conflicting ones in commit
+-- order; where nothing is in doubt and nothing unsettled, as behind a ttDrain that succeeded, each stands once, and the
+-- tables of each writethrough group are what all of its transactions make in commit order; and the READONLY groups of
+-- one set that have something to show have one position.
+pub record Answered (ends : World → World → Type 0) (o : Origin) (lines : List (List ℕ))
+    (replies : List (Option Reply)) (site : SiteState) (keeps : Keeping) (once : World → Type 0) : Type 0 where
   pub ran : World
   pub comes : Comes o lines replies ran
   pub goes : GoesOn once o.world comes.given replies ran comes.run
+  pub since : LedSinceEach (EndsKept ends site keeps) o.world comes.given replies ran comes.run
   pub last : World
-  pub ended : ends once ran last
+  pub ended : ends ran last
   pub at : IsAt site last
   pub slots : IsInSlots site last
   pub legal : KeepsCommitOrder last.history last.tier.log
@@ -198,35 +223,38 @@ pub record Answered (ends : Keeping → World → World → Type 0) (o : Origin)
   pub read : AreReadAt (length last.history) last.tier.groups
 
 -- The run ended at the last of the lines, whose reply tells a failed call of the journal's disk. Up to there the engine
--- was left so behind each line.
+-- was left so behind each line, and a journal was kept over the disk of the site as it was then.
 pub record LineBroken (o : Origin) (lines : List (List ℕ)) (replies : List (Option Reply)) (site : SiteState)
-    (once : Keeping) : Type 0 where
+    (once : World → Type 0) : Type 0 where
   pub last : World
   pub comes : ComesBroken o lines replies last
   pub goes : GoesOn once o.world comes.run.before comes.run.told comes.run.mid comes.run.run
+  pub since : LedSinceEach once o.world comes.run.before comes.run.told comes.run.mid comes.run.run
   pub unshared : IsUnshared comes.run.mid
   pub at : IsAt site last
 
--- The lines are answered, but the tail of the journal couldn't be flushed behind them. The last reply says so.
+-- The lines are answered, but the tail of the journal couldn't be flushed behind them. The last reply says so. Up to
+-- there a journal was kept over the disk of the site as it was then.
 pub record EndBroken (o : Origin) (lines : List (List ℕ)) (replies : List (Option Reply)) (site : SiteState)
-    (once : Keeping) : Type 0 where
+    (once : World → Type 0) : Type 0 where
   pub told : List (Option Reply)
   pub ran : World
   pub comes : Comes o lines told ran
   pub goes : GoesOn once o.world comes.given told ran comes.run
+  pub since : LedSinceEach once o.world comes.given told ran comes.run
   pub last : World
   pub reply : Reply
   pub ended : tier_steps.Finishes ran last (Some reply)
   pub at : IsAt site last
   pub are : replies ≡ told ++ Some reply ∷ []
 
-abbrev pub Broken : Origin → List (List ℕ) → List (Option Reply) → SiteState → Keeping → Type 0
+abbrev pub Broken : Origin → List (List ℕ) → List (Option Reply) → SiteState → (World → Type 0) → Type 0
 Broken o lines replies site once = LineBroken o lines replies site once ⊎ EndBroken o lines replies site once
 
 -- The lines are answered, and all replies written.
-pub record Whole (ends : Keeping → World → World → Type 0) (o : Origin) (lines : List (List ℕ)) (now : Outside) : Type 0 where
+pub record Whole (ends : World → World → Type 0) (o : Origin) (lines : List (List ℕ)) (now : Outside) : Type 0 where
   pub replies : List (Option Reply)
-  pub answered : Answered ends o lines replies now.site now.kept_once
+  pub answered : Answered ends o lines replies now.site now.keeps now.kept_once
   pub tells : now.written ≡ Some (o.written ++ replies_bytes replies)
 
 -- The run ended by a failed call of the journal's disk, and all replies are written. The last one tells it.
@@ -239,8 +267,9 @@ pub record BrokenOff (o : Origin) (lines : List (List ℕ)) (now : Outside) : Ty
 -- written.
 pub record CutShort (o : Origin) (lines : List (List ℕ)) (now : Outside) : Type 0 where
   pub replies : List (Option Reply)
-  pub answered : Answered Rests o lines replies now.site now.kept_once
-      ⊎ (Answered HasFlushed o lines replies now.site now.kept_once ⊎ Broken o lines replies now.site now.kept_once)
+  pub answered : Answered Rests o lines replies now.site now.keeps now.kept_once
+      ⊎ (Answered HasFlushed o lines replies now.site now.keeps now.kept_once
+      ⊎ Broken o lines replies now.site now.kept_once)
   pub count : ℕ
   pub tells : now.written ≡ Some (o.written ++ take count (replies_bytes replies))
 
@@ -263,6 +292,7 @@ pub record Closing (o : Origin) (lines : List (List ℕ)) (now : Outside) (engin
   pub goes : GoesOn now.kept_once o.world comes.given replies world comes.run
   pub at : IsAt now.site world
   pub stands : StandsIn now engine world
+  pub since : LedSinceEach (StandsHere now engine) o.world comes.given replies world comes.run
   pub passed : Splits (Some o.written) now.written (replies_bytes replies) waiting
 
 abbrev pub Closes : Result (Unit {0}) Stop → Origin → List ℕ → Outside → Engine → List ℕ → Type 0

@@ -5,11 +5,9 @@ ghost use Rattle.tier_base.specs.Codes.{number_of};
 ghost use Rattle.tier_base.specs.declared.code.Code.TheVariants as code;
 ghost use Rattle.cache_tier.specs.Replying.{reply_bytes};
 ghost use Rattle.cache_tier.specs.Steps.{tells};
-ghost use Rattle.cache_tier.specs.Worlds.{IsUnshared, World};
 ghost use Rattle.cache_engine.specs.Engines.{IsInOrder};
-ghost use Rattle.stored_tier.specs.Sites.{IsAt};
 ghost use Rattle.session_cli.specs.Outside.{seen};
-ghost use Rattle.session_cli.specs.Serving.{HasStopCause, IsStopCaused, PassesReply, Responds, StandsIn, TellsFault};
+ghost use Rattle.session_cli.specs.Serving.{HasStopCause, IsStopCaused, PassesReply, Responds, TellsFault};
 ghost use Rattle.session_cli.specs.Serving.{WritesLast};
 
 use crate::output::Output;
@@ -47,13 +45,10 @@ pub fn respond<K: Sink, P: Site, C: Clock>(
     line: &[u8],
 ) -> Result<(), Stop>
     requires { IsInOrder engine.old }
-    ensures serves { (w : World) → IsAt (P.Disk.state site.old) w
-        → StandsIn (seen (K.written sink.old) (C.coming clock.old) P.Disk.state P.Disk.possible site.old) engine.old w
-        → IsUnshared w
-        → Responds result
+    ensures serves { Responds result
         (seen (K.written sink.old) (C.coming clock.old) P.Disk.state P.Disk.possible site.old)
         (seen (K.written sink.new) (C.coming clock.new) P.Disk.state P.Disk.possible site.new)
-        output.old output.new engine.new w line.now }
+        output.old output.new engine.old engine.new line.now }
     ensures order { IsInOrder engine.new }
     ensures cause { HasStopCause Stop.Sink (K.faults sink.old) (K.faults sink.new) result }
     ensures disk { HasStopCause Stop.Disk (P.Disk.state site.old).disk_faults (P.Disk.state site.new).disk_faults

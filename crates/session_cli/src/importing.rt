@@ -1,9 +1,10 @@
 //! `import`: the rows of a CSV file go into a backing table.
 
-ghost use Rattle.std.specs.Prelude.{◌≡◌, ◌<◌, ◌⊎◌, [], Err, IfOk, List, ℕ, Some, length};
+ghost use Rattle.std.specs.Prelude.{◌≡◌, ◌<◌, ◌⊎◌, [], Err, IfOk, List, ℕ, Some, length, true};
 ghost use Rattle.outside.specs.Faults.{HasCause, Rose};
 ghost use Rattle.cache_tier.specs.Worlds.{World};
 ghost use Rattle.command_line.specs.declared.settings.ClockSource.TheVariants.{Script};
+ghost use Rattle.kept_journal.specs.Keeping.{KeepsOver};
 ghost use Rattle.stored_tier.specs.Sites.{IsAt};
 ghost use Rattle.stored_tier.specs.Stored.{IsStoredAs};
 ghost use Rattle.session_cli.specs.Ends.{Taken};
@@ -168,6 +169,7 @@ fn import_and_tell<K: Sink, P: Site>(
 ) -> Result<(), Failed>
     requires { output.old ≡ [] }
     ensures imports { (w : World) → IsAt (P.Disk.state site.old) w → IsStoredAs engine.now.tier w.tier
+        → KeepsOver P.Disk.state P.Disk.possible site.old engine.now.journal w → w.journal.kept ≡ true
         → Imported result word.now bytes.now w (K.written sink.old) (K.written sink.new) (P.Disk.state site.new) }
     ensures cause { HasCause (K.faults sink.old) (K.faults sink.new) result }
 {

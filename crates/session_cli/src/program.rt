@@ -73,13 +73,14 @@ const NO_MEMORY: u8 = 7;
 /// `run` opens a tier over the site, with its journal, and lets it answer each line, and `check` says of each line
 /// whether it is spelt right. `check` calls neither site nor clock. `import` opens a tier as `run` does, takes the
 /// whole source, and inserts its rows into the backing table that the words name, as one transaction of the console.
-/// `make` writes the generated script of a number, and `bench` runs that script on a new site in memory and writes
-/// what its run comes to; both touch nothing but the sink. How far `bench` has come is told to `progress`, which no
-/// clause speaks of.
+/// `make` writes the generated script of a number, and `bench` runs that script on a new site in memory and writes what
+/// its run comes to; both touch nothing but the sink. How far `bench` has come is told to `progress`, which no clause
+/// speaks of.
 ///
 /// Of the settings three act in `run` and `import`. The moments of the opening and of each line that isn't empty or a
 /// comment are counted from `start_ms` where `clock` is `"script"`, and the clock isn't asked; where it is `"system"`,
-/// each from an answer of the clock, in their order. After `propagate_ms` milliseconds a round of propagation is due, and it rotates a journal longer than `rotate_bytes`.
+/// each from an answer of the clock, in their order. After `propagate_ms` milliseconds a round of propagation is due,
+/// and it rotates a journal longer than `rotate_bytes`.
 ///
 /// Others may change tables of the backing database in each of the site's calls. Of `run` something is said where no
 /// writethrough group is over a table that others change in the run: those are the tier's to write.

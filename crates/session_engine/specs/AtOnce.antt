@@ -1,5 +1,5 @@
--- COMMIT of a synchronous transaction over the stored tier. (TimesTen Cache User's Guide, "Synchronous writethrough": it
--- is committed at the backing database before it is in the cache; tickets are this project's.)
+-- COMMIT of a synchronous transaction over the stored tier. (TimesTen Cache User's Guide, "Synchronous writethrough":
+-- it is committed at the backing database before it is in the cache; tickets are this project's.)
 
 use Rattle.std.specs.Prelude.{◌≡◌, ◌⊎◌, ℕ, ◌+◌, ◌≤◌, Option, Some, None, length, Result, Ok, Err}
 use Rattle.tier_base.specs.declared.code.Code.TheVariants as code

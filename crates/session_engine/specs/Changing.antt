@@ -43,7 +43,8 @@ is_change (Delete table old) = true
 -- the operations break no rule over what the session of this number sees
 abbrev pub IsUnbroken : Stored → SessionId → List Op → Type 0
 IsUnbroken t id ops =
-    (seen : TableState) → applied_all (open_ops id (seen_all t.sessions)) (rows_of t) ≡ Some seen → broken_by_all ops seen ≡ None
+    (seen : TableState) → applied_all (open_ops id (seen_all t.sessions)) (rows_of t) ≡ Some seen
+    → broken_by_all ops seen ≡ None
 
 -- what a write with its names found does in the cache; memory may be wanting at any time
 abbrev pub DoesChange : Change → Session → Part

@@ -94,8 +94,8 @@ SparesHidden groups ops =
     (place : ℕ) (g : Group) → slice_get groups place ≡ Some g → hides_keys g ≡ true
     → list_any (λ op. same_table g.def.tree.root.table (table_of op)) ops ≡ false
 
--- Stores have done operations, and then these root keys became the newest of each. Where each has a row then, they stand
--- at the end.
+-- Stores have done operations, and then these root keys became the newest of each. Where each has a row then, they
+-- stand at the end.
 pub record CommitsOps (directory : List (Option Home)) (ops : List Op) (entered : Uses) (old new : List Kept) : Type 0
   where
     pub touched : new ≡ touched_stores entered (ops_at directory ops old)

@@ -53,8 +53,8 @@ pub record CommitIsInDoubt (t : Stored) (d : Doubt) (w : World) : Type 0 where
   pub legal : KeepsCommitOrder w.history w.tier.log
   pub read : AreReadAt (length w.history) w.tier.groups
 
--- A write that was passed on is in doubt in this world: it came of one for which the tier stood, but for the ticket, by a
--- call that failed. Its table is of no writethrough group. Commit order and lengths are as above.
+-- A write that was passed on is in doubt in this world: it came of one for which the tier stood, but for the ticket, by
+-- a call that failed. Its table is of no writethrough group. Commit order and lengths are as above.
 pub record WriteIsInDoubt (t : Stored) (d : Doubt) (w : World) : Type 0 where
   pub was : World
   pub stands : StandsFor (record t { next = d.ticket }) was

@@ -1,5 +1,5 @@
--- INSERT of a row whose key isn't shown, over the stored tier. (TimesTen SQL Reference, "INSERT"; that its key is checked
--- at once against backing rows and what is pending is this project's rule.)
+-- INSERT of a row whose key isn't shown, over the stored tier. (TimesTen SQL Reference, "INSERT"; that its key is
+-- checked at once against backing rows and what is pending is this project's rule.)
 
 use Rattle.std.specs.Prelude.{◌≡◌, ◌≤◌, ℕ, List, [], ◌∷◌, ◌++◌, Option, Some, None, Bool, true, false, is_some, Result, Err, slice_get}
 use Rattle.std.specs.Bool.{MatchBool}
@@ -99,7 +99,8 @@ TellsRule (Some rule) fault = fault ≡ Some (error.Rule rule)
 -- what the operations break over what the session of this number sees
 abbrev pub IsJudged : Stored → SessionId → List Op → Option Rule → Type 0
 IsJudged t id ops fault =
-    (seen : TableState) → applied_all (open_ops id (seen_all t.sessions)) (rows_of t) ≡ Some seen → TellsRule fault (broken_by_all ops seen)
+    (seen : TableState) → applied_all (open_ops id (seen_all t.sessions)) (rows_of t) ≡ Some seen
+    → TellsRule fault (broken_by_all ops seen)
 
 -- the operations are an INSERT of this row, of which this is known
 pub record IsWeighedRow (t : Stored) (id : SessionId) (of : TableId) (row : List Value) (ops : List Op) (x : Weighed)
@@ -126,7 +127,8 @@ TakenFree old new id p (Some rule) result = (result ≡ Err (refused.Rule rule))
 TakenFree old new id p None result = Changed old new id p result
 
 -- what becomes of the row by the bank's answer, which doesn't count where the key is written already
-abbrev pub TakenIn : Stored → Stored → SessionId → Prepared → Weighed → Option (List Value) → Result Reply Refused → Type 0
+abbrev pub TakenIn : Stored → Stored → SessionId → Prepared → Weighed → Option (List Value) → Result Reply Refused
+    → Type 0
 TakenIn old new id p x found result =
     MatchBool (has_row x.known found) ((result ≡ Err (refused.Rule x.taken)) × (new ≡ old))
     (TakenFree old new id p x.fault result)

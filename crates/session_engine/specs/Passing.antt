@@ -1,5 +1,5 @@
--- A write that is passed on, over the stored tier. (TimesTen Cache User's Guide, "Setting a passthrough level"; tickets and
--- the journal are this project's.)
+-- A write that is passed on, over the stored tier. (TimesTen Cache User's Guide, "Setting a passthrough level"; tickets
+-- and the journal are this project's.)
 
 use Rattle.std.specs.Prelude.{◌≡◌, ℕ, [], Option, Some, None, Result, Ok, Err, false}
 use Rattle.tier_base.specs.declared.number.SessionId.{SessionId}

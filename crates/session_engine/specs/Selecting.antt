@@ -25,7 +25,8 @@ use Rattle.stored_tier.specs.Performing.{Performs, StaysWritten, reply_of}
 use Rattle.stored_tier.specs.Stored.{HasSession, ShowsRows}
 
 -- the query's names are found, and it is answered there
-pub record IsRoutedQuery (a : Tier) (s : Session) (q : Query) (resolved : ResolvedQuery) (way : route.Route) : Type 0 where
+pub record IsRoutedQuery (a : Tier) (s : Session) (q : Query) (resolved : ResolvedQuery) (way : route.Route)
+    : Type 0 where
   pub is : resolved_query (visible (level_of s) a) q ≡ Ok (query_seen resolved)
   pub there : query_route (level_of s) a (query_seen resolved).tables ≡ way
 

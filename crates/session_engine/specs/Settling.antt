@@ -1,5 +1,5 @@
--- A doubt that is settled, over the stored tier. (TimesTen Cache User's Guide, "Synchronous writethrough"; that the backing
--- database is asked before any other use of the ticket is this project's rule.)
+-- A doubt that is settled, over the stored tier. (TimesTen Cache User's Guide, "Synchronous writethrough"; that the
+-- backing database is asked before any other use of the ticket is this project's rule.)
 
 use Rattle.std.specs.Prelude.{◌≡◌, ◌≤◌, ℕ, List, [], ◌∷◌, Option, Some, None, Bool, true, false, Result, Ok, Err, count_by}
 use Rattle.tier_base.specs.declared.code.Code.{Code}

@@ -15,8 +15,8 @@ use table_defs::TableDef;
 use table_state::{Tables, key_of_row};
 use tier_base::TableId;
 
-/// Whether the rows of each table stand under their primary keys and fit its columns. It is false, too, where memory was
-/// wanting for a key.
+/// Whether the rows of each table stand under their primary keys and fit its columns. It is false, too, where memory
+/// was wanting for a key.
 pub(crate) fn are_keyed(alloc: Global, tables: &Tables) -> bool
     ensures { IsTrue result → IsKeyed tables.now }
 {

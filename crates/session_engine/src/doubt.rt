@@ -7,8 +7,8 @@ use tier_base::{Seq, SessionId};
 /// What a ticket in doubt is of.
 #[derive(Drop)]
 pub enum Doubted {
-    /// A commit, with what the session has written. The stores have room for these operations since the ticket was drawn,
-    /// so the doubt is settled without memory.
+    /// A commit, with what the session has written. The stores have room for these operations since the ticket was
+    /// drawn, so the doubt is settled without memory.
     Commit(Ops),
     /// A write that was passed on.
     PassedWrite,

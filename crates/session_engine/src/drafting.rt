@@ -67,8 +67,8 @@ pub(crate) fn draft_prepare(
     }
 }
 
-/// The number of a write that is passed on, the next ticket, which is to be in the journal before the bank is called. Only
-/// room comes to the journal.
+/// The number of a write that is passed on, the next ticket, which is to be in the journal before the bank is called.
+/// Only room comes to the journal.
 ///
 /// The refusal is 119 where no ticket is left; or memory was wanting. A journal that has no room for the number is told
 /// by the draft.

@@ -36,7 +36,8 @@ fn hold(tier: &mut Tier, alloc: Global, id: SessionId, ops: Ops) -> Result<(), A
     Ok(())
 }
 
-/// The same, and the instances that they change are used. It fails, too, where memory is wanting to tell which they are.
+/// The same, and the instances that they change are used. It fails, too, where memory is wanting to tell which they
+/// are.
 pub(crate) fn hold_used(
     tier: &mut Tier,
     alloc: Global,

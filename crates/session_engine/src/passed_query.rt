@@ -20,9 +20,9 @@ use tier_statements::{answer_query, bank_fault};
 /// SELECT that is passed on: the query's tables are copied in one call of the backing database, and the query is
 /// answered over these rows. The tier stays as it is, and the journal isn't written to.
 ///
-/// The reply is 201 where the call failed, and 299 where memory was wanting in it. The refusal is the first broken rule,
-/// as the evaluator tells it; or memory was wanting, which is also said where a row doesn't stand under its key or
-/// doesn't fit its table. (TimesTen SQL Reference, "SELECT"; TimesTen Cache User's Guide, "Setting a passthrough
+/// The reply is 201 where the call failed, and 299 where memory was wanting in it. The refusal is the first broken
+/// rule, as the evaluator tells it; or memory was wanting, which is also said where a row doesn't stand under its key
+/// or doesn't fit its table. (TimesTen SQL Reference, "SELECT"; TimesTen Cache User's Guide, "Setting a passthrough
 /// level".)
 pub fn select_passed<P: Site>(
     alloc: Global,

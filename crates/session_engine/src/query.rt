@@ -38,11 +38,11 @@ pub enum Routed {
     PassedOn(ResolvedQuery),
 }
 
-/// Finds the names of a query of an open session, and where it is answered: at the backing database at level 3 and where
-/// a table isn't cached, else in the cache.
+/// Finds the names of a query of an open session, and where it is answered: at the backing database at level 3 and
+/// where a table isn't cached, else in the cache.
 ///
-/// The refusal is the first broken rule of its names over the tables that the session's level lets it see; or memory was
-/// wanting. (TimesTen SQL Reference, "SELECT"; TimesTen Cache User's Guide, "Setting a passthrough level".)
+/// The refusal is the first broken rule of its names over the tables that the session's level lets it see; or memory
+/// was wanting. (TimesTen SQL Reference, "SELECT"; TimesTen Cache User's Guide, "Setting a passthrough level".)
 pub fn route_query(
     tier: &Tier,
     alloc: Global,

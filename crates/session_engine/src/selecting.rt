@@ -20,8 +20,8 @@ use std::alloc::{AllocError, Global};
 use stored_tier::tier::Tier;
 use tier_base::{Seq, SessionId};
 
-/// SELECT of an open session that is answered in the cache, its names found: over what the session sees. In each group in
-/// which the order of last use counts, the instances of the selected rows are used. Nothing is loaded for it.
+/// SELECT of an open session that is answered in the cache, its names found: over what the session sees. In each group
+/// in which the order of last use counts, the instances of the selected rows are used. Nothing is loaded for it.
 ///
 /// The refusal is the first broken rule, as the evaluator tells it, and all then stays; or memory was wanting.
 /// (TimesTen SQL Reference, "SELECT"; TimesTen Cache User's Guide, "LRU aging".)

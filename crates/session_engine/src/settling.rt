@@ -22,8 +22,8 @@ use tier_base::{Seq, SessionId, Ticket};
 
 /// Settles a doubt, where there is one. Where a commit stands at the backing database (131) the stores do it, and where
 /// it doesn't (132) what the session has written is forgotten; its transaction ends in both cases. Behind a write that
-/// was passed on the tier stays as it is, and so do the session's own writes. A question that failed, or for which memory
-/// was wanting at the backing database, changes nothing, and the doubt stays.
+/// was passed on the tier stays as it is, and so do the session's own writes. A question that failed, or for which
+/// memory was wanting at the backing database, changes nothing, and the doubt stays.
 ///
 /// It takes no memory of its own: the room was made when the ticket was drawn. (TimesTen Cache User's Guide,
 /// "Synchronous writethrough"; the question is this project's rule.)

@@ -27,8 +27,8 @@ use tier_statements::done;
 /// A write of an open session in the cache, whose names are found: its operations stand behind the session's own, and
 /// hold the keys that they write and the parents that they name, until the transaction ends. The reply tells how many
 /// rows of the named table they write. The bank is asked for the key of an INSERT that isn't shown. In each group in
-/// which the order of last use counts, the instances that they change are used. Nothing is loaded for it, and the journal
-/// isn't written to.
+/// which the order of last use counts, the instances that they change are used. Nothing is loaded for it, and the
+/// journal isn't written to.
 ///
 /// The refusal is the first broken rule: row by row 120, 105, 106; 119 of the operations; 111 with the holder of a key;
 /// 107, 108, 109. It is 201 where the bank's call failed; or memory was wanting. All then stays. (TimesTen SQL

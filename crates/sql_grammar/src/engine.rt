@@ -205,6 +205,3 @@ pub fn recognize(alloc: Global, start: Start, tokens: &[Token]) -> Result<Verdic
 pub fn one_verdict()
     ensures { (s : OneGrammar) (ks : List OneKind) (v w : OneVerdict) → Judged s ks v → Judged s ks w → v ≡ w }
 {}
-
-#[cfg(test)]
-mod tests;

@@ -34,8 +34,8 @@ use tier_statements::are_small;
 /// For each group in which the order of last use counts, the root keys of the instances that operations change: of each
 /// operation the instance of its row before it, and the one behind it, over what those before it leave.
 ///
-/// It fails for want of memory alone, which is also said where a table has 2^62 rows. (TimesTen Cache User's Guide, "LRU
-/// aging".)
+/// It fails for want of memory alone, which is also said where a table has 2^62 rows. (TimesTen Cache User's Guide,
+/// "LRU aging".)
 pub fn used_by_ops<S: Scan>(
     alloc: Global,
     catalog: &Catalog,

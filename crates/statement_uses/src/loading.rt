@@ -12,8 +12,8 @@ use group_catalog::{Catalog, KeptGroup};
 use sql_subset::stmt::RefreshState;
 use table_state::Scan;
 
-/// The place of the group that has the table of a wanted row, where it loads on demand and the row isn't among the shown
-/// ones: it is DYNAMIC, and not a READONLY one that is OFF. It takes no memory.
+/// The place of the group that has the table of a wanted row, where it loads on demand and the row isn't among the
+/// shown ones: it is DYNAMIC, and not a READONLY one that is OFF. It takes no memory.
 ///
 /// (TimesTen Cache User's Guide, "Dynamically loading a cache instance".)
 pub fn loading_place<S: Scan>(catalog: &Catalog, shown: &S, want: &Want) -> Option<usize>

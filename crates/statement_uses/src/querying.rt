@@ -20,11 +20,11 @@ use std::alloc::{AllocError, Global};
 use table_state::{RowKey, Scan};
 use tier_base::{Seq, TableId};
 
-/// For each group in which the order of last use counts, the root keys of the instances that a query's selected rows are
-/// of, combination by combination, those of one in the order of FROM.
+/// For each group in which the order of last use counts, the root keys of the instances that a query's selected rows
+/// are of, combination by combination, those of one in the order of FROM.
 ///
-/// It fails as `selected_keys` does, which leaves the same of the plan. Where no such group has a table of the query, no row is read. (TimesTen Cache User's
-/// Guide, "LRU aging".)
+/// It fails as `selected_keys` does, which leaves the same of the plan. Where no such group has a table of the query,
+/// no row is read. (TimesTen Cache User's Guide, "LRU aging".)
 pub fn used_by_query<S: Scan>(
     alloc: Global,
     catalog: &Catalog,

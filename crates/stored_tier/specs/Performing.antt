@@ -70,14 +70,14 @@ pub record IsPerformed (new : Stored) (site : SiteState) (does : World → Type 
   pub stands : StandsFor new world
   pub is : does world
 
--- For each world at the site before, for which the old tier stands, and in which others leave the tables of writethrough
--- groups alone.
+-- For each world at the site before, for which the old tier stands, and in which others leave the tables of
+-- writethrough groups alone.
 abbrev pub Performs : Stored → Stored → SiteState → SiteState → (World → World → Type 0) → Type 0
 Performs old new before behind does =
     (w : World) → IsAt before w → StandsFor old w → IsUnshared w → IsPerformed new behind (does w)
 
--- The same of what may write to the journal: a world at the site behind, that comes so. Unless a call of the disk failed
--- in it, after which the run ends, the new tier stands for it, and the journal is kept over the disk.
+-- The same of what may write to the journal: a world at the site behind, that comes so. Unless a call of the disk
+-- failed in it, after which the run ends, the new tier stands for it, and the journal is kept over the disk.
 pub record IsPerformedOver {D : Type 0} (state : D → SiteState) (possible : D → ℕ → Held → Type 0) (new : Stored)
     (k : Option TierJournal) (d : D) (stop : Option Reply) (does : World → Type 0) : Type 0 where
   pub world : World
@@ -130,8 +130,8 @@ KeepsSlots None behind = Unit {0}
 KeepsSlots (Some old) None = ⊥
 KeepsSlots (Some old) (Some new) = new.slots ≡ old.slots
 
--- Counts and moments don't fall, and what others change stays. The reply has no notes; it tells a fault of the bank only
--- where the count of its faults rose, and none of the journal.
+-- Counts and moments don't fall, and what others change stays. The reply has no notes; it tells a fault of the bank
+-- only where the count of its faults rose, and none of the journal.
 pub record IsCaused (before behind : SiteState) (reply : Reply) : Type 0 where
   pub later : before.bank_faults ≤ behind.bank_faults
   pub moment : before.moment ≤ behind.moment

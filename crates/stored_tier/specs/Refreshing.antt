@@ -1,5 +1,5 @@
--- Which READONLY groups are refreshed together, and what a refresh makes of what is stored. (TimesTen Cache User's Guide,
--- "Automatically refreshing a cache group"; that a set is refreshed from one snapshot is this project's rule.)
+-- Which READONLY groups are refreshed together, and what a refresh makes of what is stored. (TimesTen Cache User's
+-- Guide, "Automatically refreshing a cache group"; that a set is refreshed from one snapshot is this project's rule.)
 
 use Rattle.std.specs.Prelude.{◌≡◌, ℕ, suc, List, [], ◌∷◌, ◌++◌, Bool, true, false, ◌&&◌, ◌||◌, Option, Some, None, Result, Ok, Err, length, map, nat_eq, slice_get, slice_set, unwrap_or, if◌then◌else◌}
 use Rattle.std.specs.List.{list_any}

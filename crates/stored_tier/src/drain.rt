@@ -30,13 +30,13 @@ impl Tier {
     ghost use Rattle.stored_tier.specs.Refusing.{TellsRoundEnd};
     ghost use Rattle.stored_tier.specs.Stored.{IsSound};
 
-    /// CALL ttDrain: the unsettled transactions are applied at the bank, in ticket order, and a long journal is rotated.
-    /// The reply tells how many got their receipt; nothing is unsettled then.
+    /// CALL ttDrain: the unsettled transactions are applied at the bank, in ticket order, and a long journal is
+    /// rotated. The reply tells how many got their receipt; nothing is unsettled then.
     ///
     /// It is 202 where a call of the journal's disk failed; the run is to end then. It is 201 where a call of the bank
     /// failed, 210 with the table and the key of a row that isn't as the transaction says, and 299 where memory was
-    /// wanting; then those stay unsettled that have no receipt. (TimesTen Cache User's
-    /// Guide, asynchronous writethrough; the call and its codes are this project's rule.)
+    /// wanting; then those stay unsettled that have no receipt. (TimesTen Cache User's Guide, asynchronous
+    /// writethrough; the call and its codes are this project's rule.)
     pub fn drain<P: Site>(
         &mut self,
         alloc: Global,
@@ -59,8 +59,8 @@ impl Tier {
         }
     }
 
-    /// A round, with a rotation of a long journal behind it. The reply is the one with which it ended early; else nothing
-    /// is unsettled.
+    /// A round, with a rotation of a long journal behind it. The reply is the one with which it ended early; else
+    /// nothing is unsettled.
     pub fn settle_all<P: Site>(
         &mut self,
         alloc: Global,

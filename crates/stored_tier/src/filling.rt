@@ -28,9 +28,9 @@ use table_defs::{BackingSchema, copied_places};
 use table_state::Tables;
 use tier_base::TableId;
 
-// A group's store made anew over this schema, with the instances of these tables that it shows: of a dynamic group those
-// whose keys its old store has, or that are hidden; and they are past its horizon. Where instances leave by last use,
-// they come in the order of the old store.
+// A group's store made anew over this schema, with the instances of these tables that it shows: of a dynamic group
+// those whose keys its old store has, or that are hidden; and they are past its horizon. Where instances leave by last
+// use, they come in the order of the old store.
 //
 // It fails for want of memory, and for a tree that isn't sound over the schema, which no group has.
 pub(crate) fn store_anew(

@@ -179,7 +179,7 @@ pub mid_flush : (schema : List TableDef) (o : Held) (j : Journal) (p : Held) →
 mid_flush schema o j p m =
     let all : written_all schema j.flushed ++ written_all schema j.tail ≡ written_all schema (j.flushed ++ (j.tail ++ [])) =
     sym (map-append (written schema) j.flushed j.tail) ∙ ap (λ (l : List JournalEntry). written_all schema (j.flushed ++ l)) (sym (append-nil j.tail)) in
-    record { beside = m.beside; gives = elim m.gives [ inl g ↦ inl g | inr g ↦ inr (subst (λ (l : List Entry). Gives p.slots l) all g) ] }
+    record { beside = m.beside; gives = elim m.gives [ inl g ↦ inl (record { gives = g; bytes = m.bytes }) | inr g ↦ inr (record { gives = subst (λ (l : List Entry). Gives p.slots l) all g; bytes = m.bytes }) ] }
 
 pub mid_noted : (schema : List TableDef) (o : Held) (j : Journal) (entries : List JournalEntry) (p : Held) → LeftByFlush schema o (with_tail entries j) [] p → LeftByFlush schema o j entries p
 mid_noted schema o j entries p m = record { beside = m.beside; gives = elim m.gives [ inl g ↦ inl g | inr g ↦ inr (subst (λ (l : List JournalEntry). GivesEntries schema p.slots (j.flushed ++ l)) (append-nil (j.tail ++ entries)) g) ] }
@@ -187,7 +187,7 @@ mid_noted schema o j entries p m = record { beside = m.beside; gives = elim m.gi
 -- ---- rotations
 
 pub mid_rotation : (schema : List TableDef) (o : Held) (j : Journal) (entries : List JournalEntry) (p : Held) → MidRotation o (written_all schema j.flushed) (written_all schema entries) p → LeftByRotation schema o j entries p
-mid_rotation schema o j entries p m = record { beside = m.beside; gives = m.gives }
+mid_rotation schema o j entries p m = record { beside = m.beside; gives = elim m.gives [ inl g ↦ inl (record { gives = g; bytes = m.bytes }) | inr g ↦ inr (record { gives = g; bytes = m.bytes }) ] }
 
 pub rotate_kept : {D : Type 0} (state : D → SiteState) (possible : D → ℕ → Held → Type 0) (d : D) (schema : List TableDef) (o : Held) (t t' : TierJournal) (j : Journal) (b : Batch) (entries : List JournalEntry) → Keeps schema t o.slots j → Holds 2 schema b entries
     → Rested state possible d t'.journal o (written_all schema entries) [] → HasRenewed t.journal t'.journal (batch_size b) → KeepsOn state possible d schema t' o (rotated (name_size schema) entries j)

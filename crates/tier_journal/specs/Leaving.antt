@@ -3,13 +3,14 @@
 use Rattle.std.specs.Prelude.{◌≡◌, ◌⊎◌, List, ◌++◌}
 use Rattle.table_defs.specs.declared.definition.TableDef.{TableDef}
 use Rattle.outside.specs.Holding.{Slots, Held}
-use Rattle.commit_journal.specs.Layout.{Gives}
+use Rattle.commit_journal.specs.Layout.{Gives, HaveBytes}
 use Rattle.cache_tier.specs.Journals.{Journal, JournalEntry}
 use Rattle.tier_journal.specs.Writing.{written_all}
 
--- the slots are undamaged, and have these entries
-abbrev pub GivesEntries : List TableDef → Slots → List JournalEntry → Type 0
-GivesEntries schema slots entries = Gives slots (written_all schema entries)
+-- the slots are undamaged, and have these entries; and none is without bytes
+pub record GivesEntries (schema : List TableDef) (slots : Slots) (entries : List JournalEntry) : Type 0 where
+  pub gives : Gives slots (written_all schema entries)
+  pub bytes : HaveBytes slots
 
 -- the slots give one list of entries or the other; beside them nothing changed
 pub record GivesEither (schema : List TableDef) (o : Held) (one other : List JournalEntry) (p : Held) : Type 0 where

@@ -117,7 +117,14 @@ pub record IsDamagedAt (schema : List TableDef) (slots now : Slots) (slot : Slot
 -- a journal of these entries alone
 abbrev pub opened_journal : TierJournal → List JournalEntry → Journal
 opened_journal t entries =
-    record { kept = true; flushed = entries; tail = []; written = slot_size t; generation = generation_in t; way = None }
+    record {
+      kept = true;
+      flushed = entries;
+      tail = [];
+      written = slot_size t;
+      generation = generation_in t;
+      way = None;
+    }
 
 -- Of the slots as they were and as they are now: each entry in the tier's words and where it begins, and the journal
 -- with them; or the first damaged place.

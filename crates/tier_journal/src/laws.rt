@@ -25,7 +25,7 @@ pub fn grown_law()
         → Keeps (schema ++ more) t slots j }
 {}
 
-/// Of a journal that is kept the slots give the flushed entries.
+/// Of a journal that is kept the slots give the flushed entries, and none is without bytes.
 pub fn kept_law()
     ensures { (schema : List TableDef) (t : TierJournal) (slots : Slots) (j : Journal) → Keeps schema t slots j
         → GivesEntries schema slots j.flushed }

@@ -13,8 +13,7 @@ use Rattle.outside.specs.Holding.{Held}
 use Rattle.outside.specs.Others.{AreOthers}
 use Rattle.outside.specs.Sites.{SiteState}
 use Rattle.order_laws.specs.Commits.{RiseBetween}
-use Rattle.commit_journal.specs.Layout.{Reads}
-use Rattle.commit_journal.specs.Opening.{HaveBytes}
+use Rattle.commit_journal.specs.Layout.{HaveBytes, Reads}
 use Rattle.propagators.specs.Certainty.{KeepsCertain}
 use Rattle.recovery_laws.specs.Notes.{commits_in}
 use Rattle.cache_tier.specs.Journals.{Journal, JournalEntry, next_behind}

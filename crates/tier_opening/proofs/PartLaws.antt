@@ -12,8 +12,7 @@ use Rattle.outside.specs.Holding.{Held, Slots}
 use Rattle.outside.specs.Sites.{SiteState}
 use Rattle.order_laws.specs.Commits.{RiseBetween}
 use Rattle.journal_entries.specs.declared.entry.Entry.{Entry}
-use Rattle.commit_journal.specs.Layout.{Placed, Reads, entries_of}
-use Rattle.commit_journal.specs.Opening.{HaveBytes}
+use Rattle.commit_journal.specs.Layout.{entries_of, HaveBytes, Placed, Reads}
 use Rattle.commit_journal.specs.Resting.{AtRest}
 use Rattle.propagators.specs.Certainty.{KeepsCertain}
 use Rattle.recovery_laws.specs.Notes.{commits_in}

@@ -10,8 +10,8 @@ use Rattle.table_state.specs.Tables.{TableState}
 use Rattle.outside.specs.Holding.{Held, Slots}
 use Rattle.outside.specs.Others.{AreOthers}
 use Rattle.outside.specs.Sites.{SiteState}
-use Rattle.commit_journal.specs.Layout.{Placed, Reads}
-use Rattle.commit_journal.specs.Opening.{HaveBytes, IsBlank}
+use Rattle.commit_journal.specs.Layout.{HaveBytes, Placed, Reads}
+use Rattle.commit_journal.specs.Opening.{IsBlank}
 use Rattle.cache_tier.specs.Journals.{Journal, JournalEntry}
 use Rattle.cache_tier.specs.TierStates.{Settings, Tier, opened}
 use Rattle.cache_tier.specs.Worlds.{IsUnshared, World}

@@ -14,8 +14,7 @@ use Rattle.outside.specs.declared.disk.Slot.{Slot}
 use Rattle.outside.specs.Faults.{Rose}
 use Rattle.outside.specs.Holding.{Held, Slots}
 use Rattle.outside.specs.Sites.{SiteState}
-use Rattle.commit_journal.specs.Layout.{Placed, Reads}
-use Rattle.commit_journal.specs.Opening.{HaveBytes}
+use Rattle.commit_journal.specs.Layout.{HaveBytes, Placed, Reads}
 use Rattle.cache_tier.specs.Rounds.{Differing, round_stop}
 use Rattle.cache_tier.specs.TierStates.{Settings}
 use Rattle.cache_tier.specs.Worlds.{IsUnshared, World}

@@ -2,7 +2,7 @@
 
 ghost use Rattle.std.specs.Prelude.{◌≡◌, IfOk, Some};
 ghost use Rattle.outside.specs.Holding.{Held};
-ghost use Rattle.commit_journal.specs.Opening.{HaveBytes};
+ghost use Rattle.commit_journal.specs.Layout.{HaveBytes};
 ghost use Rattle.tier_journal.specs.declared.opening.Found.TheVariants.{Whole};
 ghost use Rattle.tier_journal.specs.Keeping.{version_in};
 ghost use Rattle.tier_journal.specs.Opening.{Finds};

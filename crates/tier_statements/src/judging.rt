@@ -128,9 +128,9 @@ pub fn are_small<S: Scan>(scan: &S) -> bool
 }
 
 /// The rule that keeps a session's operations from being applied over what it sees: 107, 108 or 109 of the first one
-/// that breaks one behind those before it; or memory was wanting. That a row isn't the one that an operation names is no
-/// rule of a statement, and is answered as want of memory: where each foreign key refers to an earlier table no operation
-/// of a write finds such a row, says `transactions::laws::difference_law`.
+/// that breaks one behind those before it; or memory was wanting. That a row isn't the one that an operation names is
+/// no rule of a statement, and is answered as want of memory: where each foreign key refers to an earlier table no
+/// operation of a write finds such a row, says `transactions::laws::difference_law`.
 pub fn apply_fault<S: Scan>(alloc: Global, scan: &S, ops: &[Op]) -> Result<(), Refused>
     requires whole { IsWhole (S.state scan.now) }
     requires keyed { IsKeyed (S.state scan.now) }

@@ -17,9 +17,9 @@ mod system_clock;
 
 use backing_gate::MemorySite;
 use files::{SiteError, open_site};
-use outside::Site;
+use outside::{Clock, Sink, Site, Source};
 use progress::{ToldLines, ToldSource};
-use session_cli::top;
+use session_cli::{Progress, top};
 use std::alloc::{AllocError, Global};
 use std::io::{ErrorKind, IsTerminal};
 use std::process::ExitCode;
@@ -140,7 +140,7 @@ fn call<P: Site>(rt: &HostRuntime, words: &[&str], settings: &[u8], site: &mut P
     let mut lines = ToldLines::new(told_by(rt, words, "bench"));
     let mut sink = WriterSink::new(rt.stdout());
     let mut clock = SystemClock::new(*rt);
-    let status = top(
+    let status = call_over(
         rt.alloc(),
         words,
         settings,
@@ -153,6 +153,21 @@ fn call<P: Site>(rt: &HostRuntime, words: &[&str], settings: &[u8], site: &mut P
     source.end();
     lines.end();
     status
+}
+
+// Calls the program over any objects. Its contract is long, and this passes none of it on: so the caller, which has streams
+// of known types, is proved without it.
+fn call_over<'a, S: Source, K: Sink, P: Site, C: Clock, G: Progress>(
+    alloc: Global,
+    words: &'a [&'a str],
+    settings: &[u8],
+    source: &mut S,
+    sink: &mut K,
+    site: &mut P,
+    clock: &mut C,
+    progress: &mut G,
+) -> u8 {
+    top(alloc, words, settings, source, sink, site, clock, progress)
 }
 
 // What tells how far this command has come: the runtime, where the words name it and standard error is a terminal.

@@ -10,13 +10,23 @@ const STEP_BYTES: u64 = 1_048_576;
 const STEP_LINES: u64 = 10_000;
 
 /// A line that counts on standard error, and is written over.
-#[derive(Drop)]
 pub struct CountLine {
     // none where nothing is to be told
     told_by: Option<HostRuntime>,
     unit: &'static str,
     step: u64,
     told: u64,
+}
+
+impl Drop for CountLine {
+    fn drop(self) {
+        let Self {
+            told_by: _,
+            unit: _,
+            step: _,
+            told: _,
+        } = self;
+    }
 }
 
 impl CountLine {
@@ -51,11 +61,20 @@ impl CountLine {
 }
 
 /// A source that tells how many bytes were taken of it. It gives what the source within gives.
-#[derive(Drop)]
 pub struct ToldSource<S> {
     source: S,
     line: CountLine,
     taken: u64,
+}
+
+impl<S: Drop> Drop for ToldSource<S> {
+    fn drop(self) {
+        let Self {
+            source: _,
+            line: _,
+            taken: _,
+        } = self;
+    }
 }
 
 impl<S> ToldSource<S> {
@@ -90,10 +109,18 @@ impl<S: Source> Source for ToldSource<S> {
 }
 
 /// Tells how many lines of a script are answered.
-#[derive(Drop)]
 pub struct ToldLines {
     line: CountLine,
     answered: u64,
+}
+
+impl Drop for ToldLines {
+    fn drop(self) {
+        let Self {
+            line: _,
+            answered: _,
+        } = self;
+    }
 }
 
 impl ToldLines {

@@ -4,10 +4,18 @@ use outside::{Failed, Sink, Source};
 use std::io::{Read, Write};
 
 /// A reader as a source. Each failed call is counted.
-#[derive(Drop)]
 pub struct ReaderSource<R> {
     reader: R,
     faults: u64,
+}
+
+impl<R: Drop> Drop for ReaderSource<R> {
+    fn drop(self) {
+        let Self {
+            reader: _,
+            faults: _,
+        } = self;
+    }
 }
 
 impl<R> ReaderSource<R> {
@@ -36,10 +44,18 @@ impl<R: Read> Source for ReaderSource<R> {
 }
 
 /// A writer as a sink. Each failed call is counted, and each that took nothing.
-#[derive(Drop)]
 pub struct WriterSink<W> {
     writer: W,
     faults: u64,
+}
+
+impl<W: Drop> Drop for WriterSink<W> {
+    fn drop(self) {
+        let Self {
+            writer: _,
+            faults: _,
+        } = self;
+    }
 }
 
 impl<W> WriterSink<W> {

@@ -6,10 +6,18 @@ use std::time::SystemTime;
 use tier_base::Moment;
 
 /// The system's clock, which repeats its last answer where the system has none. It doesn't tell what it will answer.
-#[derive(Drop)]
 pub struct SystemClock<R> {
     runtime: R,
     last: Moment,
+}
+
+impl<R: Drop> Drop for SystemClock<R> {
+    fn drop(self) {
+        let Self {
+            runtime: _,
+            last: _,
+        } = self;
+    }
 }
 
 impl<R> SystemClock<R> {

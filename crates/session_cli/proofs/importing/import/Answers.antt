@@ -3,7 +3,7 @@ use Rattle.tier_opening.specs.Telling.{FailsAs}
 use Rattle.session_cli.specs.declared.serving.Status.TheVariants.{Finished, InputTooLong, NoMemory, SinkFailed, SourceFailed}
 use Rattle.session_cli.specs.Opening.{tier_settings}
 use Rattle.session_cli.specs.Timing.{bases_by}
-use Rattle.session_cli.proofs.ImportingLaws.{import_bank, import_disk, import_not_source, import_opened, import_unopened, import_unstarted, imported_cut, imported_well}
+use Rattle.session_cli.proofs.ImportingLaws.{import_bank, import_disk, import_not_source, import_opened, import_unopened, import_unstarted, imports_nothing, imported_cut, imported_well}
 use Rattle.session_cli.proofs.OpeningLaws.{bank_failed, disk_failed}
 use Rattle.session_cli.proofs.importing.import.Goals as goal
 
@@ -31,38 +31,38 @@ pub returns-in-Err-Source-clause-imports : goal.returns-in-Err-Source-clause-imp
 returns-in-Err-Source-clause-imports g c =
     import_opened g.P.Disk.state g.P.Disk.possible (tier_settings c.args.settings.now) c.pace_in.result c.first_moment-start.result.0 c.in-Ok-open.engine SourceFailed c.args.word.now _ _ (g.K.Sink.written c.args.sink.now)
     (bases_by c.args.settings.now (g.C.Clock.coming c.args.clock.now)) c.args.site.now c.open.new.site _ (sym c.pace_in.ensures) c.first_moment-start.ensures.next c.in-Ok-open.ensures.opens c.in-Ok-open.ensures.doubt c.in-Ok-open.ensures.cause.bank_later c.in-Ok-open.ensures.cause.shares
-    (λ w input at stored is. (c.take_all.ensures.failed (c.in-Err-Source.is ∙ ap Err c.in-Err-Source.field-0-is) input is, record { at = at; silent = refl }))
+    (λ w input at stored keeps kept is. (c.take_all.ensures.failed (c.in-Err-Source.is ∙ ap Err c.in-Err-Source.field-0-is) input is, imports_nothing g.P.Disk.state g.P.Disk.possible c.open.new.site c.in-Ok-open.engine.journal w _ _ at keeps kept _ refl))
 
 pub returns-in-Err-TooLong-clause-imports : goal.returns-in-Err-TooLong-clause-imports
 returns-in-Err-TooLong-clause-imports g c =
     import_opened g.P.Disk.state g.P.Disk.possible (tier_settings c.args.settings.now) c.pace_in.result c.first_moment-start.result.0 c.in-Ok-open.engine InputTooLong c.args.word.now _ _ (g.K.Sink.written c.args.sink.now)
     (bases_by c.args.settings.now (g.C.Clock.coming c.args.clock.now)) c.args.site.now c.open.new.site _ (sym c.pace_in.ensures) c.first_moment-start.ensures.next c.in-Ok-open.ensures.opens c.in-Ok-open.ensures.doubt c.in-Ok-open.ensures.cause.bank_later c.in-Ok-open.ensures.cause.shares
-    (λ w input at stored is. (c.take_all.ensures.long (c.in-Err-TooLong.is ∙ ap Err c.in-Err-TooLong.field-0-is) input is, record { at = at; silent = refl }))
+    (λ w input at stored keeps kept is. (c.take_all.ensures.long (c.in-Err-TooLong.is ∙ ap Err c.in-Err-TooLong.field-0-is) input is, imports_nothing g.P.Disk.state g.P.Disk.possible c.open.new.site c.in-Ok-open.engine.journal w _ _ at keeps kept _ refl))
 
 pub returns-in-Err-Memory-clause-imports : goal.returns-in-Err-Memory-clause-imports
 returns-in-Err-Memory-clause-imports g c =
     import_opened g.P.Disk.state g.P.Disk.possible (tier_settings c.args.settings.now) c.pace_in.result c.first_moment-start.result.0 c.in-Ok-open.engine NoMemory c.args.word.now _ _ (g.K.Sink.written c.args.sink.now)
     (bases_by c.args.settings.now (g.C.Clock.coming c.args.clock.now)) c.args.site.now c.open.new.site _ (sym c.pace_in.ensures) c.first_moment-start.ensures.next c.in-Ok-open.ensures.opens c.in-Ok-open.ensures.doubt c.in-Ok-open.ensures.cause.bank_later c.in-Ok-open.ensures.cause.shares
-    (λ w input at stored is. record { at = at; silent = refl })
+    (λ w input at stored keeps kept is. imports_nothing g.P.Disk.state g.P.Disk.possible c.open.new.site c.in-Ok-open.engine.journal w _ _ at keeps kept _ refl)
 
 pub returns-in-Ok-import_and_tell-clause-imports : goal.returns-in-Ok-import_and_tell-clause-imports
 returns-in-Ok-import_and_tell-clause-imports g c =
     import_opened g.P.Disk.state g.P.Disk.possible (tier_settings c.args.settings.now) c.pace_in.result c.first_moment-start.result.0 c.in-Ok-open.engine Finished c.args.word.now _ _ (g.K.Sink.written c.args.sink.now)
     (bases_by c.args.settings.now (g.C.Clock.coming c.args.clock.now)) c.args.site.now c.open.new.site _ (sym c.pace_in.ensures) c.first_moment-start.ensures.next c.in-Ok-open.ensures.opens c.in-Ok-open.ensures.doubt c.in-Ok-open.ensures.cause.bank_later c.in-Ok-open.ensures.cause.shares
-    (λ w input at stored is.
+    (λ w input at stored keeps kept is.
     let t = c.in-Ok-take_all.ensures.all input is in
     record {
       whole = t.whole;
-      imported = imported_well c.import_and_tell.result _ c.args.word.now input c.as_slice-bytes.result.now w _ _ _ c.in-Ok-import_and_tell.is (c.as_slice-bytes.ensures.value ∙ t.bytes_are) (c.import_and_tell.ensures.imports w at stored);
+      imported = imported_well c.import_and_tell.result _ c.args.word.now input c.as_slice-bytes.result.now w _ _ _ c.in-Ok-import_and_tell.is (c.as_slice-bytes.ensures.value ∙ t.bytes_are) (c.import_and_tell.ensures.imports w at stored keeps kept);
     })
 
 pub returns-clause-imports : goal.returns-clause-imports
 returns-clause-imports g c =
     import_opened g.P.Disk.state g.P.Disk.possible (tier_settings c.args.settings.now) c.pace_in.result c.first_moment-start.result.0 c.in-Ok-open.engine SinkFailed c.args.word.now _ _ (g.K.Sink.written c.args.sink.now)
     (bases_by c.args.settings.now (g.C.Clock.coming c.args.clock.now)) c.args.site.now c.open.new.site _ (sym c.pace_in.ensures) c.first_moment-start.ensures.next c.in-Ok-open.ensures.opens c.in-Ok-open.ensures.doubt c.in-Ok-open.ensures.cause.bank_later c.in-Ok-open.ensures.cause.shares
-    (λ w input at stored is.
+    (λ w input at stored keeps kept is.
     let t = c.in-Ok-take_all.ensures.all input is in
     record {
       whole = t.whole;
-      imported = imported_cut c.import_and_tell.result _ c.args.word.now input c.as_slice-bytes.result.now w _ _ _ c.in-Err-import_and_tell.is (c.as_slice-bytes.ensures.value ∙ t.bytes_are) (c.import_and_tell.ensures.imports w at stored);
+      imported = imported_cut c.import_and_tell.result _ c.args.word.now input c.as_slice-bytes.result.now w _ _ _ c.in-Err-import_and_tell.is (c.as_slice-bytes.ensures.value ∙ t.bytes_are) (c.import_and_tell.ensures.imports w at stored keeps kept);
     })

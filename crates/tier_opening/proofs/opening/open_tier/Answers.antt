@@ -15,7 +15,7 @@ returns-in-Err-Unfit-clause-cause g c = record {
       subst (λ (p : ℕ). IsDamage c.args.start.0 o c.slot.result p) (sym c.in-Err-Unfit.place-is) (
       unfit_at g.P.Disk.state g.P.Disk.possible c.args.start.0 c.args.site.now c.schema.new.self c.found_journal.new.site c.in-Ok.schema c.in_ok-journal.journal c.in_ok-journal.records c.slot.result _
       c.in-Ok.ensures.told
-      (subst (λ s. (o : Rattle.outside.specs.Holding.Held) → (g.P.Disk.state c.schema.new.self).held ≡ Rattle.std.proofs.Common.Some o → Rattle.commit_journal.specs.Opening.HaveBytes o.slots → Finds g.P.Disk.state g.P.Disk.possible c.found_journal.new.site s o (Rattle.tier_journal.specs.declared.opening.Found.TheVariants.Whole c.in_ok-journal.journal c.in_ok-journal.records)) c.as_slice.ensures c.in_ok-journal.ensures.found)
+      (subst (λ s. (o : Rattle.outside.specs.Holding.Held) → (g.P.Disk.state c.schema.new.self).held ≡ Rattle.std.proofs.Common.Some o → Rattle.commit_journal.specs.Layout.HaveBytes o.slots → Finds g.P.Disk.state g.P.Disk.possible c.found_journal.new.site s o (Rattle.tier_journal.specs.declared.opening.Found.TheVariants.Whole c.in_ok-journal.journal c.in_ok-journal.records)) c.as_slice.ensures c.in_ok-journal.ensures.found)
       c.slot.ensures
       (λ settings. subst (λ (e : RecallError). IsRefusedFor settings c.args.start.0 c.in-Ok.schema c.in_ok-journal.records.items e) c.in-Err-Unfit.field-0-is (c.in-Err-Unfit.ensures.unfit settings))
       o held bytes);
@@ -30,7 +30,7 @@ returns-in-Ok-reopen-clause-opens g c =
     opens_by g.P.Disk.state g.P.Disk.possible c.args.site.now c.schema.new.self c.found_journal.new.site c.reopen.new.site _ c.in-Ok-recall.recalled c.in_ok-journal.journal c.in_ok-journal.records
     (ap (λ p. p.0) c.into_parts-catalog.ensures) (ap (λ p. p.1) c.into_parts-catalog.ensures) (ap (λ p. p.2) c.into_parts-catalog.ensures)
     c.in-Ok.ensures.told (c.in_ok-journal.ensures.cause.shared ∙ c.in-Ok.ensures.cause.shared)
-    (subst (λ s. (o : Rattle.outside.specs.Holding.Held) → (g.P.Disk.state c.schema.new.self).held ≡ Rattle.std.proofs.Common.Some o → Rattle.commit_journal.specs.Opening.HaveBytes o.slots → Finds g.P.Disk.state g.P.Disk.possible c.found_journal.new.site s o (Rattle.tier_journal.specs.declared.opening.Found.TheVariants.Whole c.in_ok-journal.journal c.in_ok-journal.records)) c.as_slice.ensures c.in_ok-journal.ensures.found)
+    (subst (λ s. (o : Rattle.outside.specs.Holding.Held) → (g.P.Disk.state c.schema.new.self).held ≡ Rattle.std.proofs.Common.Some o → Rattle.commit_journal.specs.Layout.HaveBytes o.slots → Finds g.P.Disk.state g.P.Disk.possible c.found_journal.new.site s o (Rattle.tier_journal.specs.declared.opening.Found.TheVariants.Whole c.in_ok-journal.journal c.in_ok-journal.records)) c.as_slice.ensures c.in_ok-journal.ensures.found)
     c.in_ok-journal.ensures.version c.in-Ok-recall.ensures.recalls c.in-Ok-recall.ensures.order c.in-Ok-recall.ensures.commits c.in-Ok-recall.ensures.next c.in-Ok-recall.ensures.rise
     c.recalled_law.ensures.stands c.in-Ok-reopen.tier c.in-Ok-reopen.ensures.reopens c.in-Ok-reopen.ensures.certain
 
@@ -43,7 +43,7 @@ returns-in-Err-clause-cause g c = record {
       fails_by g.P.Disk.state g.P.Disk.possible c.args.site.now c.schema.new.self c.found_journal.new.site c.reopen.new.site _ c.in-Ok-recall.recalled c.in_ok-journal.journal c.in_ok-journal.records
       (ap (λ p. p.0) c.into_parts-catalog.ensures) (ap (λ p. p.1) c.into_parts-catalog.ensures) (ap (λ p. p.2) c.into_parts-catalog.ensures)
       c.in-Ok.ensures.told (c.in_ok-journal.ensures.cause.shared ∙ c.in-Ok.ensures.cause.shared)
-      (subst (λ s. (o : Rattle.outside.specs.Holding.Held) → (g.P.Disk.state c.schema.new.self).held ≡ Rattle.std.proofs.Common.Some o → Rattle.commit_journal.specs.Opening.HaveBytes o.slots → Finds g.P.Disk.state g.P.Disk.possible c.found_journal.new.site s o (Rattle.tier_journal.specs.declared.opening.Found.TheVariants.Whole c.in_ok-journal.journal c.in_ok-journal.records)) c.as_slice.ensures c.in_ok-journal.ensures.found)
+      (subst (λ s. (o : Rattle.outside.specs.Holding.Held) → (g.P.Disk.state c.schema.new.self).held ≡ Rattle.std.proofs.Common.Some o → Rattle.commit_journal.specs.Layout.HaveBytes o.slots → Finds g.P.Disk.state g.P.Disk.possible c.found_journal.new.site s o (Rattle.tier_journal.specs.declared.opening.Found.TheVariants.Whole c.in_ok-journal.journal c.in_ok-journal.records)) c.as_slice.ensures c.in_ok-journal.ensures.found)
       c.in_ok-journal.ensures.version c.in-Ok-recall.ensures.recalls c.in-Ok-recall.ensures.order c.in-Ok-recall.ensures.commits c.in-Ok-recall.ensures.next c.in-Ok-recall.ensures.rise
       c.recalled_law.ensures.stands c.in-Err.error c.told_error.result
       (subst (λ s. IsTold s c.in-Err.error c.told_error.result) (c.in-Ok-copied_schema.ensures ∙ c.as_slice-2.ensures) c.told_error.ensures)

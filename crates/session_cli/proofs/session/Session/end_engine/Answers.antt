@@ -1,16 +1,12 @@
 use Rattle.session_cli.proofs.FinishLaws.{finishes_flushed, finishes_passed}
 use Rattle.session_cli.proofs.StopLaws.{end_cause}
-use Rattle.session_cli.proofs.WayLaws.{at_begun, keeps_begun}
-use Rattle.kept_journal.specs.Beginning.{begun_here}
 use Rattle.session_cli.proofs.session.Session.end_engine.Goals as goal
 
 pub returns-in-Ok-clause-serves : goal.returns-in-Ok-clause-serves
 returns-in-Ok-clause-serves g c = λ o given coming closing.
     finishes_flushed g.P.Disk.state g.P.Disk.possible o given (g.K.Sink.written c.args.sink.now) (g.K.Sink.written c.flush.new.sink) coming c.args.site.now c.finish.new.site
     c.args.self.now.engine c.finish.new.engine.journal c.args.self.now.output closing c.flush.result c.flush.new.self.output c.flush.ensures.sink
-    (c.in-Ok.ensures.finishes closing.world closing.at closing.stands.keeps)
-    (c.in-Ok.ensures.finishes (begun_here closing.world) (at_begun (g.P.Disk.state c.args.site.now) closing.world closing.at)
-    (keeps_begun g.P.Disk.state g.P.Disk.possible c.args.site.now c.args.self.now.engine.journal closing.world closing.at closing.stands.keeps)) c.flush.ensures.bytes c.flush.ensures.empty
+    (λ w x. c.in-Ok.ensures.finishes w x.at x.stands.keeps) c.flush.ensures.bytes c.flush.ensures.empty
 
 pub returns-in-Err-clause-serves : goal.returns-in-Err-clause-serves
 returns-in-Err-clause-serves g c = λ o given coming closing.

@@ -8,4 +8,4 @@ returns-then-is_empty-clause-serves g c = λ o given alone s. closes_ended o giv
 pub returns-clause-serves : goal.returns-clause-serves
 returns-clause-serves g c = λ o given alone s.
     closes_line _ o given _ _ c.args.self.now _ _ c.as_bytes.result.now c.as_bytes.ensures (some_when c.is_empty.result c.args.self.now.line c.is_empty.ensures c.if-is_empty.false) s
-    (c.respond.ensures.serves s.world s.at s.stands (unshared_now o given _ c.args.self.now s alone))
+    c.respond.ensures.serves (unshared_now o given _ c.args.self.now s alone)
