@@ -23,6 +23,7 @@ use session_cli::{Progress, top};
 use std::alloc::{AllocError, Global};
 use std::io::{ErrorKind, IsTerminal};
 use std::process::ExitCode;
+use std::thread::Builder;
 use std::{env, fs};
 use streams::{ReaderSource, WriterSink};
 use system_clock::SystemClock;
@@ -39,8 +40,17 @@ const NO_MEMORY: u8 = 7;
 /// The status where the settings can't be read.
 const CANNOT_OPEN: u8 = 11;
 
+/// The bytes of the stack that the program runs on. A line of 65,536 bytes may be a chain of 32,000 terms, such as
+/// `1+1+..`, and what goes through its tree goes so deep.
+const STACK_BYTES: usize = 268_435_456;
+
 fn main(rt: HostRuntime) -> ExitCode {
-    ExitCode::from(status(&rt))
+    let thread = Builder::new().stack_size(STACK_BYTES);
+    let status = match thread.spawn(&rt, move || status(&rt)) {
+        Ok(running) => running.join(&rt),
+        Err(_) => status(&rt),
+    };
+    ExitCode::from(status)
 }
 
 fn status(rt: &HostRuntime) -> u8 {
