@@ -2,9 +2,7 @@
 # chains.sh PROGRAM: lines of 65,536 bytes that are one chain of operators, or one list. Each is answered, also where the
 # system gives the program a stack of a megabyte. It prints a line, and ends with 1 where a reply isn't as it says.
 set -u
-program=$(realpath "$1") wrong=0
-folder=$(mktemp -d)
-trap 'rm -rf "$folder"' EXIT
+. "$(dirname "$0")/common.sh"
 cd "$folder" || exit 1
 
 # A line: its front, so many links with what joins them as have room, and its end.
@@ -37,11 +35,8 @@ answered() {
     { begin; chain "$@"; } >lines
     (ulimit -s "$stack"; cd here && "$program" run) <lines >written 2>told
     got=$?
-    [ "$got" -eq 0 ] && [ "$(tail -n +6 written)" = "$wanted" ] || {
-      printf 'chains: with a stack of %s: wanted %q, got status %s and %q of %s\n' \
-        "$stack" "$wanted" "$got" "$(tail -n +6 written | head -c 200)" "$1$2$3.."
-      wrong=1
-    }
+    [ "$got" -eq 0 ] && [ "$(tail -n +6 written)" = "$wanted" ] ||
+      complain "with a stack of $stack: wanted '$wanted', got status $got and '$(tail -n +6 written | head -c 200)' of $1$2$3.."
   done
 }
 

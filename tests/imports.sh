@@ -3,13 +3,7 @@
 # file and what the program answers to it, worked out by hand. It prints a line for each of its parts, and ends with 1 where a row
 # isn't as it says.
 set -u
-program=$(realpath "$1") wrong=0
-complain() {
-  printf 'imports: %s\n' "$*"
-  wrong=1
-}
-folder=$(mktemp -d)
-trap 'rm -rf "$folder"' EXIT
+. "$(dirname "$0")/common.sh"
 cd "$folder" || exit 1
 
 # Lets the program answer the input, by these words, and compares what it writes.

@@ -3,13 +3,8 @@
 # change that `sqlite3` made in between, behind an import, behind rotations, and behind a kill in the middle of durable
 # commits, ROUNDS times (10). It prints a line for each of its five parts, and ends with 1 where one isn't as it has to be.
 set -u
-program=$1 rounds=${2:-10} wrong=0
-complain() {
-  printf 'real: %s\n' "$*"
-  wrong=1
-}
-folder=$(mktemp -d)
-trap 'rm -rf "$folder"' EXIT
+. "$(dirname "$0")/common.sh"
+rounds=${2:-10}
 cd "$folder" || exit 1
 
 # Lets the program answer these lines, and compares what it writes.

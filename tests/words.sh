@@ -3,13 +3,7 @@
 # with status 1 or 2; and of settings that it takes, what their values do. Each row is a call, its answer worked out by hand. It
 # prints a line for each of its parts, and ends with 1 where a row isn't as it says.
 set -u
-program=$(realpath "$1") wrong=0
-complain() {
-  printf 'words: %s\n' "$*"
-  wrong=1
-}
-folder=$(mktemp -d)
-trap 'rm -rf "$folder"' EXIT
+. "$(dirname "$0")/common.sh"
 cd "$folder" || exit 1
 
 # The next call's working folder is empty, or has settings alone.
