@@ -21,8 +21,9 @@ use tier_base::Moment;
 
 /// Each group whose aging cycle is due at the tier's moment has it: its instances leave by last use, or by the time in
 /// a column of their root rows; a READONLY DYNAMIC group hides the latter until its next refresh. Instances in which a
-/// session has uncommitted writes are skipped. It takes no memory for that, and always does so. Where sessions might read
-/// over the stored rows before, and instances left, it is then found out whether they still may, by what they wrote.
+/// session has uncommitted writes are skipped. It takes no memory for that, and always does so. Where sessions might
+/// read over the stored rows before, and instances left, it is then found out whether they still may, by what they
+/// wrote.
 ///
 /// (TimesTen Cache User's Guide, "Implementing aging on a cache group".)
 pub fn age(tier: &mut Tier, alloc: Global)

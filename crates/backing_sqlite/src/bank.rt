@@ -25,8 +25,8 @@ use table_defs::{BackingSchema, TableDef, copied_schema};
 use table_state::{RowKey, Sealed};
 use tier_base::{Position, TableId, Ticket};
 
-/// The backing database in a SQLite file, which it holds alone while it is open. It doesn't tell what it holds. Each call
-/// is one transaction of the store, and each failed one is counted. Clauses see how many have failed.
+/// The backing database in a SQLite file, which it holds alone while it is open. It doesn't tell what it holds. Each
+/// call is one transaction of the store, and each failed one is counted. Clauses see how many have failed.
 pub struct SqliteBank {
     alloc: Global,
     conn: Connection<FileStore<File>>,

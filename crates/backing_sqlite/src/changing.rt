@@ -17,8 +17,8 @@ use table_defs::TableDef;
 use table_state::RowKey;
 use tier_base::{Position, Seq, TableId};
 
-/// What changed since a position in the tables of the trees, and of each tree the instances that this touches, and those
-/// that a want names, read in a transaction of its own. It fails where the logs don't go back so far.
+/// What changed since a position in the tables of the trees, and of each tree the instances that this touches, and
+/// those that a want names, read in a transaction of its own. It fails where the logs don't go back so far.
 pub(crate) fn changes<S: Alter>(
     alloc: Global,
     conn: &mut Connection<S>,
@@ -149,8 +149,8 @@ fn first_rows<S: Alter>(
     Ok(first.into_rows())
 }
 
-// Keys with the row before the first entry of each, in the order of these entries. The keys are also kept as those of rows
-// without values.
+// Keys with the row before the first entry of each, in the order of these entries. The keys are also kept as those of
+// rows without values.
 struct FirstRows {
     seen: Rows,
     rows: Vec<(Key, Option<Row>)>,
@@ -331,8 +331,8 @@ fn add_root<S: Alter>(
     put_root(alloc, found, roots)
 }
 
-// The root key that the row of a change was reached from: a root row's own, and of a child row that had a parent row the
-// one that this is reached from now.
+// The root key that the row of a change was reached from: a root row's own, and of a child row that had a parent row
+// the one that this is reached from now.
 fn old_root<S: Alter>(
     alloc: Global,
     tx: &mut Transaction<'_, S>,

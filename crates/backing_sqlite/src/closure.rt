@@ -73,8 +73,8 @@ impl Choice {
         Ok(())
     }
 
-    /// Chooses all tables that refer to a chosen one, on and on, and then all that these refer to. So a write of a chosen
-    /// table, with what leaves by ON DELETE CASCADE, is judged as on all tables.
+    /// Chooses all tables that refer to a chosen one, on and on, and then all that these refer to. So a write of a
+    /// chosen table, with what leaves by ON DELETE CASCADE, is judged as on all tables.
     pub(crate) fn add_family(&mut self, schema: &BackingSchema) -> Result<(), StoreFault> {
         self.add_children(schema)?;
         self.add_parents(schema)

@@ -5,8 +5,8 @@ use std::alloc::Global;
 use std::{mem, str};
 use tier_base::Name;
 
-/// A text that grows, and the first fault that was met. Behind a fault nothing is put any more, so that what writes a text
-/// needn't look at each part of it.
+/// A text that grows, and the first fault that was met. Behind a fault nothing is put any more, so that what writes a
+/// text needn't look at each part of it.
 pub(crate) struct Draft {
     alloc: Global,
     text: String,

@@ -12,8 +12,8 @@ use std::alloc::Global;
 use std::slice::from_ref;
 use tier_base::Ticket;
 
-/// Does one write and records it with its ticket, in one transaction of the store, where it breaks no rule and its ticket
-/// isn't recorded yet. Else nothing changes.
+/// Does one write and records it with its ticket, in one transaction of the store, where it breaks no rule and its
+/// ticket isn't recorded yet. Else nothing changes.
 pub(crate) fn passed<S: Alter>(
     alloc: Global,
     conn: &mut Connection<S>,

@@ -51,8 +51,8 @@ fn instance_with<S: Alter>(
     }
 }
 
-/// The key of the root row that the row of a key is reached from, whatever the WHERE conditions say. It goes over at most
-/// as many foreign keys as the tree has children.
+/// The key of the root row that the row of a key is reached from, whatever the WHERE conditions say. It goes over at
+/// most as many foreign keys as the tree has children.
 pub(crate) fn root_of<S: Alter>(
     alloc: Global,
     tx: &mut Transaction<'_, S>,
@@ -78,8 +78,8 @@ pub(crate) fn root_of<S: Alter>(
     if_root(alloc, tx, shelf, tree, place, key)
 }
 
-// The place of the parent table, and the key that the foreign key of this place's key names; none at the root, and where
-// there is none.
+// The place of the parent table, and the key that the foreign key of this place's key names; none at the root, and
+// where there is none.
 fn above<S: Alter>(
     alloc: Global,
     tx: &mut Transaction<'_, S>,

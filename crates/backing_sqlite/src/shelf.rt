@@ -67,8 +67,8 @@ impl Shelf {
         }
     }
 
-    /// Up to this position the logs are empty, or to be emptied, before a transaction behind which the history has so many
-    /// entries; none where there are no logs.
+    /// Up to this position the logs are empty, or to be emptied, before a transaction behind which the history has so
+    /// many entries; none where there are no logs.
     pub(crate) fn forgotten(&self, entries: u64) -> Option<u64> {
         let kept = self.kept?;
         if self.has_logged(entries) {

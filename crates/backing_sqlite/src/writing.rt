@@ -37,8 +37,8 @@ fn give_one<S: Alter>(
     }
 }
 
-/// Does an operation of a transaction, which applies, and enters it into the log at this place, where logs are kept. Where
-/// the operation before it was on another table, what its table's log needs to tell no more is forgotten first.
+/// Does an operation of a transaction, which applies, and enters it into the log at this place, where logs are kept.
+/// Where the operation before it was on another table, what its table's log needs to tell no more is forgotten first.
 pub(crate) fn do_op<S: Alter>(
     alloc: Global,
     tx: &mut Transaction<'_, S>,

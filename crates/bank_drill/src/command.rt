@@ -17,11 +17,12 @@ pub enum Command<'a> {
     Schema,
     /// `!snapshot TABLE ..`: rows of these tables.
     Snapshot(&'a str),
-    /// `!reach TABLE VALUE,.. in TREE`: the instance that the row at a key is in. The tree has its tables with `; ` between,
-    /// the root first, each with its WHERE where it has one.
+    /// `!reach TABLE VALUE,.. in TREE`: the instance that the row at a key is in. The tree has its tables with `; `
+    /// between, the root first, each with its WHERE where it has one.
     Reach(&'a str, &'a str),
-    /// `!changes N WANTS in TREES`, or `N/M` in place of `N`: what changed since the position N, where no call to come asks
-    /// since one before M. Wants are `TABLE VALUE,..` with `; ` between; there may be none. Trees have ` / ` between.
+    /// `!changes N WANTS in TREES`, or `N/M` in place of `N`: what changed since the position N, where no call to come
+    /// asks since one before M. Wants are `TABLE VALUE,..` with `; ` between; there may be none. Trees have ` / `
+    /// between.
     Changes(u64, u64, &'a str, &'a str),
     /// `!tells N`: whether it tells what changed since the position N.
     Tells(u64),

@@ -1,8 +1,8 @@
 //! `bank_drill`: the backing database in a file, call by call. It is for tests.
 //!
-//! It reads a script from standard input, as `command` lists its lines, over a new database `bank.db` and two slots in the
-//! working folder. It writes each line, and behind it what the call answered. Its status is 0, or 99 where a line isn't
-//! understood, memory is wanting, or the files can't be opened.
+//! It reads a script from standard input, as `command` lists its lines, over a new database `bank.db` and two slots in
+//! the working folder. It writes each line, and behind it what the call answered. Its status is 0, or 99 where a line
+//! isn't understood, memory is wanting, or the files can't be opened.
 #![tactic(auto)]
 
 mod answers;

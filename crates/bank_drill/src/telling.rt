@@ -7,8 +7,8 @@ use std::alloc::Global;
 use table_defs::TableDef;
 use tier_base::Name;
 
-/// What is told. Where memory is wanting nothing is put any more, so that what tells an answer needn't look at each part of
-/// it.
+/// What is told. Where memory is wanting nothing is put any more, so that what tells an answer needn't look at each
+/// part of it.
 pub struct Output {
     bytes: Vec<u8>,
     is_whole: bool,

@@ -44,14 +44,16 @@ IsChosen s tree p at key = has_root p (root_at s tree at key) ≡ true
 abbrev pub ShowsInsert : TableState → TableState → Tree → Type 0
 ShowsInsert s new tree =
     (t : TableId) (def : TableDef) (row : List Value) (at : ℕ) (p q : List Value → Bool) →
-    AppliesAt (Insert t row) s new tree t def at → Agree s tree p q → IsChosen new tree q at (key_of def.primary_key row) →
+    AppliesAt (Insert t row) s new tree t def at → Agree s tree p q
+    → IsChosen new tree q at (key_of def.primary_key row) →
     shown_of new tree q ≡ change_at at (λ table. put_in table (key_of def.primary_key row) row) (shown_of s tree p)
 
 -- a delete that applies takes its row out of what is shown, where its root was shown
 abbrev pub ShowsDelete : TableState → TableState → Tree → Type 0
 ShowsDelete s new tree =
     (t : TableId) (def : TableDef) (row : List Value) (at : ℕ) (p q : List Value → Bool) →
-    AppliesAt (Delete t row) s new tree t def at → Agree new tree q p → IsChosen s tree p at (key_of def.primary_key row) →
+    AppliesAt (Delete t row) s new tree t def at → Agree new tree q p
+    → IsChosen s tree p at (key_of def.primary_key row) →
     shown_of new tree q ≡ change_at at (λ table. remove table (key_of def.primary_key row)) (shown_of s tree p)
 
 -- each child stands behind its parent

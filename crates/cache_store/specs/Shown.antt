@@ -1,5 +1,5 @@
--- What a cache group shows of a state: the instances of the roots that pass a test. (TimesTen Cache User's Guide, "Cache
--- instances": loading, unloading and aging act on whole instances.)
+-- What a cache group shows of a state: the instances of the roots that pass a test. (TimesTen Cache User's Guide,
+-- "Cache instances": loading, unloading and aging act on whole instances.)
 use Rattle.std.specs.Prelude.{◌≡◌, ℕ, List, [], ◌∷◌, Option, Some, None, Bool, false, ◌&&◌, ◌||◌, not, if◌then◌else◌}
 use Rattle.std.specs.List.{list_any}
 use Rattle.std.specs.FinMap.{contains_key, entries, get, retain_keys}
@@ -27,7 +27,8 @@ has_root p (Some root) = p root
 abbrev pub GetsChosen : TableState → Tree → Type 0
 GetsChosen s tree =
     (p : List Value → Bool) (place : ℕ) (key : List Value) →
-    get (kept_at (shown_of s tree p) place) key ≡ (if has_root p (root_at s tree place key) then get (kept_at (view_of s tree) place) key else None)
+    get (kept_at (shown_of s tree p) place) key
+    ≡ (if has_root p (root_at s tree place key) then get (kept_at (view_of s tree) place) key else None)
 
 -- rows and other rows, where their keys have none yet
 abbrev pub with_rows : Table → List (List Value × List Value) → Table

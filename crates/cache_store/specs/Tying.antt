@@ -6,7 +6,8 @@ use Rattle.recency.specs.Rings.{touched, keys_without}
 
 -- a slot's key is that of no other slot of these
 abbrev pub HasOwnKey : (ℕ → List Value) → List ℕ → ℕ → Type 0
-HasOwnKey key_in slots slot = (i other : ℕ) → slice_get slots i ≡ Some other → is_same (key_in slot) (key_in other) ≡ nat_eq slot other
+HasOwnKey key_in slots slot = (i other : ℕ) → slice_get slots i ≡ Some other
+    → is_same (key_in slot) (key_in other) ≡ nat_eq slot other
 
 -- so what a call does to the slots it does to the keys
 abbrev pub TiesKeys : (ℕ → List Value) → List ℕ → ℕ → Type 0

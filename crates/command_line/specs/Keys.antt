@@ -15,7 +15,8 @@ IsTable bytes members = IsUtf8 bytes × (parse_document bytes ≡ Some members)
 
 -- the keys that there are
 abbrev pub keys : List (List ℕ)
-keys = codes "workers" ∷ codes "propagate_ms" ∷ codes "clock" ∷ codes "start_ms" ∷ codes "lru_high" ∷ codes "lru_low" ∷ codes "lru_cycle_ms" ∷ codes "rotate_bytes" ∷ []
+keys = codes "workers" ∷ codes "propagate_ms" ∷ codes "clock" ∷ codes "start_ms" ∷ codes "lru_high" ∷ codes "lru_low"
+    ∷ codes "lru_cycle_ms" ∷ codes "rotate_bytes" ∷ []
 
 abbrev pub is_known : List ℕ → Bool
 is_known key = list_any (λ k. bytes_eq key k) keys

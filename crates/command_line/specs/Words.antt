@@ -32,7 +32,13 @@ importing = with_rule (new_app (codes "import")) table_rule
 
 -- a number must stand behind the word, from 0 to 1,000,000
 abbrev pub number_rule : Rule
-number_rule = record (new_rule (codes "N")) { required = true; action = Some Set; parser = Some (parse.Signed (pos 0) (pos 1000000)) }
+number_rule =
+    record (new_rule (codes "N")) {
+      required = true;
+      action = Some Set;
+      parser =
+          Some (parse.Signed (pos 0) (pos 1000000));
+    }
 
 abbrev pub counting : Text → App
 counting word = with_rule (new_app word) number_rule

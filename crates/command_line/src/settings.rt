@@ -135,7 +135,8 @@ fn is_known(key: &str) -> bool
 
 /// The number at the key, where it is an integer between the bounds; without the key the default.
 fn number_at(table: &Table, key: &str, least: u64, greatest: u64, default: u64) -> Option<u64>
-    ensures { MatchOption result ((n : ℕ) → ¬ (SetsNumber (table_view table.now) key.now least greatest default n)) (SetsNumber (table_view table.now) key.now least greatest default) }
+    ensures { MatchOption result ((n : ℕ) → ¬ (SetsNumber (table_view table.now) key.now least greatest default n))
+        (SetsNumber (table_view table.now) key.now least greatest default) }
 {
     match table.get(key) {
         Some(value) => number_in(value, least, greatest),
@@ -145,7 +146,8 @@ fn number_at(table: &Table, key: &str, least: u64, greatest: u64, default: u64) 
 
 /// The number, where the value is an integer between the bounds.
 fn number_in(value: &Value, least: u64, greatest: u64) -> Option<u64>
-    ensures { MatchOption result ((n : ℕ) → ¬ (IsNumber (view value.now) least greatest n)) (IsNumber (view value.now) least greatest) }
+    ensures { MatchOption result ((n : ℕ) → ¬ (IsNumber (view value.now) least greatest n))
+        (IsNumber (view value.now) least greatest) }
 {
     let Some(number) = value.as_integer() else {
         return None;
@@ -162,7 +164,9 @@ fn number_in(value: &Value, least: u64, greatest: u64) -> Option<u64>
 
 /// The clock at its key; without the key the script's.
 fn clock_at(table: &Table) -> Option<ClockSource>
-    ensures { MatchOption result ((clock : ClockSource) → ¬ (ClockOr (get_member (codes "clock") (table_view table.now)) clock)) (ClockOr (get_member (codes "clock") (table_view table.now))) }
+    ensures { MatchOption result ((clock : ClockSource)
+        → ¬ (ClockOr (get_member (codes "clock") (table_view table.now)) clock))
+        (ClockOr (get_member (codes "clock") (table_view table.now))) }
 {
     match table.get("clock") {
         Some(value) => clock_in(value),
@@ -172,7 +176,8 @@ fn clock_at(table: &Table) -> Option<ClockSource>
 
 /// The clock that the value names.
 fn clock_in(value: &Value) -> Option<ClockSource>
-    ensures { MatchOption result ((clock : ClockSource) → ¬ (IsClock (view value.now) clock)) (IsClock (view value.now)) }
+    ensures { MatchOption result ((clock : ClockSource) → ¬ (IsClock (view value.now) clock))
+        (IsClock (view value.now)) }
 {
     let Some(word) = value.as_str() else {
         return None;

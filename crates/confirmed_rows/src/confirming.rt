@@ -15,9 +15,9 @@ use stored_tier::tier::Tier;
 use table_state::Scan;
 use tier_statements::{are_small, judge_ops};
 
-/// It is noted that sessions may read and write over the stored rows, which fit their tables and stand under their keys,
-/// where there are not too many of them and each session's operations apply on them. No row is looked at but those that
-/// the operations name.
+/// It is noted that sessions may read and write over the stored rows, which fit their tables and stand under their
+/// keys, where there are not too many of them and each session's operations apply on them. No row is looked at but
+/// those that the operations name.
 ///
 /// Where it isn't so, or memory was wanting, nothing changes.
 pub fn confirm(tier: &mut Tier, alloc: Global)

@@ -5,8 +5,8 @@ use std::alloc::{AllocError, Global};
 use table_defs::{ForeignKey, TableDef};
 use tier_base::{Name, Seq, TableId};
 
-/// P (ID, N); C (ID, PID), which refers to P; V (ID, X), where X is a text of up to 3 bytes; T (ID, N); and K (ID, PID),
-/// which refers to P with ON DELETE CASCADE. ID is the key of each, and other columns are TT_INTEGER.
+/// P (ID, N); C (ID, PID), which refers to P; V (ID, X), where X is a text of up to 3 bytes; T (ID, N); and K (ID,
+/// PID), which refers to P with ON DELETE CASCADE. ID is the key of each, and other columns are TT_INTEGER.
 pub fn joined_tables(alloc: Global) -> Result<Vec<TableDef>, AllocError> {
     let mut tables = Vec::with_capacity(alloc, 5)?;
     tables.push(with_number(alloc, "P")?)?;

@@ -1,9 +1,9 @@
 //! `drill`: the program over objects in memory, with faults as a script plans them. It is for tests.
 //!
-//! It reads a script from standard input. Lines that begin with `!` plan what goes wrong, as `plan` lists them; the other
-//! lines are the program's input. It writes the replies, then the entries of the backing history, then the rows of the
-//! backing tables. Its status is the program's, or 99 where a plan isn't understood: then one line on standard error says
-//! which, and nothing is told.
+//! It reads a script from standard input. Lines that begin with `!` plan what goes wrong, as `plan` lists them; the
+//! other lines are the program's input. It writes the replies, then the entries of the backing history, then the rows
+//! of the backing tables. Its status is the program's, or 99 where a plan isn't understood: then one line on standard
+//! error says which, and nothing is told.
 #![tactic(auto)]
 
 mod backing;

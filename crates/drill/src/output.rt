@@ -4,8 +4,8 @@ use itoa::Buffer;
 use row_types::{Row, print_values_into};
 use std::alloc::{AllocError, Global};
 
-/// A text that grows. Where memory is wanting nothing is put any more, so that what tells something needn't look at each
-/// part of it.
+/// A text that grows. Where memory is wanting nothing is put any more, so that what tells something needn't look at
+/// each part of it.
 pub struct Output {
     bytes: Vec<u8>,
     is_whole: bool,

@@ -32,9 +32,9 @@ pub enum Plan<'a> {
     Slots,
     /// `restart`: the input behind this line is that of a new run of the program, over the same site.
     Restart,
-    /// `crash MOMENT PICK`: the run ends at this moment, which is counted from its beginning: each call of the bank that
-    /// leaves entries is one, and each write, cut and sync of the journal's disk. The slots are left as picked of what a
-    /// crash may leave then.
+    /// `crash MOMENT PICK`: the run ends at this moment, which is counted from its beginning: each call of the bank
+    /// that leaves entries is one, and each write, cut and sync of the journal's disk. The slots are left as picked of
+    /// what a crash may leave then.
     Crash(u64, Pick),
     /// `slot N BYTES`: the slot has these bytes as the run begins.
     Slot(Slot, &'a str),

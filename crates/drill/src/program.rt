@@ -98,8 +98,8 @@ impl<'a> Program<'a> {
     }
 }
 
-// Calls the program over any objects. Its contract is long, and this passes none of it on: so the caller, which has objects
-// of known types, is proved without it.
+// Calls the program over any objects. Its contract is long, and this passes none of it on: so the caller, which has
+// objects of known types, is proved without it.
 fn call<'a, S: Source, K: Sink, P: Site, C: Clock>(
     alloc: Global,
     words: &'a [&'a str],

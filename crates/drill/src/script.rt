@@ -137,8 +137,8 @@ impl<'a> Script<'a> {
         self.runs.get(number).unwrap_or(&self.last)
     }
 
-    /// Whether calls are counted anew from this run on: in the first one, in one before which a slot is changed, in one that
-    /// ends in a crash, and behind such a one.
+    /// Whether calls are counted anew from this run on: in the first one, in one before which a slot is changed, in one
+    /// that ends in a crash, and behind such a one.
     pub fn begins(&self, number: usize) -> bool {
         let run = self.run(number);
         match number.checked_sub(1) {

@@ -58,8 +58,8 @@ fn tell_byte(byte: u8, out: &mut Output) {
     out.put_bytes(&[high, low]);
 }
 
-/// The site with its slots changed as the script plans it of this run. Nothing is planned for it, and it is at its first
-/// moment.
+/// The site with its slots changed as the script plans it of this run. Nothing is planned for it, and it is at its
+/// first moment.
 pub fn change_slots(
     alloc: Global,
     site: MemorySite,

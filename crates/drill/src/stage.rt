@@ -239,8 +239,8 @@ impl<'a> Stage<'a> {
         Ok(())
     }
 
-    // The replies that the run wrote before the crash, where its input comes line by line: those of the lines behind which
-    // the moment isn't past that of the crash. So the run is begun again with more and more of its lines.
+    // The replies that the run wrote before the crash, where its input comes line by line: those of the lines behind
+    // which the moment isn't past that of the crash. So the run is begun again with more and more of its lines.
     fn answered(
         &self,
         alloc: Global,

@@ -42,4 +42,5 @@ referring s key child = filter (refers_to key (slice_get s.schema child.0)) (val
 abbrev pub deleted : ℕ → TableState → TableId → List Value → List Op
 deleted zero s t row = []
 deleted (suc n) s t row =
-    flat_map (λ child. flat_map (deleted n s child) (referring s (key_in (slice_get s.schema t.0) row) child)) (children_from t 0 s.schema) ++ Delete t row ∷ []
+    flat_map (λ child. flat_map (deleted n s child) (referring s (key_in (slice_get s.schema t.0) row) child))
+    (children_from t 0 s.schema) ++ Delete t row ∷ []

@@ -67,4 +67,5 @@ Adds r result old new = TakesIn put r result old new
 
 -- what came of the elements before a place
 abbrev pub TakenBefore : {S X A : Type 0} → (S → A → S) → (X → Result (List A) Rule) → List X → ℕ → S → S → Type 0
-TakenBefore {S} {X} {A} after f xs i old new = (more : List A) × (each f xs ≡ added (Ok more) (each f (drop i xs))) × (new ≡ folded after old more)
+TakenBefore {S} {X} {A} after f xs i old new = (more : List A) × (each f xs ≡ added (Ok more) (each f (drop i xs)))
+    × (new ≡ folded after old more)

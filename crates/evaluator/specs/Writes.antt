@@ -46,7 +46,8 @@ refuses c column (Some value) = is_code c (done (stored_in column value))
 abbrev pub first_refusing : Code → List Column → List Expr → List Value → Option (List ℕ)
 first_refusing c [] es row = None
 first_refusing c (column ∷ columns) [] row = None
-first_refusing c (column ∷ columns) (e ∷ es) row = if refuses c column (eval e row) then Some column.name else first_refusing c columns es row
+first_refusing c (column ∷ columns) (e ∷ es) row =
+    if refuses c column (eval e row) then Some column.name else first_refusing c columns es row
 
 abbrev pub kept : Result Value Code → Option Value
 kept (Ok value) = Some value
@@ -61,14 +62,16 @@ stored_value column (Some value) = kept (stored_in column value)
 abbrev pub stored_values : List Column → List Expr → List Value → Option (List Value)
 stored_values [] es row = Some []
 stored_values (column ∷ columns) [] row = Some []
-stored_values (column ∷ columns) (e ∷ es) row = with_both (λ v vs. Some (v ∷ vs)) (stored_value column (eval e row)) (stored_values columns es row)
+stored_values (column ∷ columns) (e ∷ es) row =
+    with_both (λ v vs. Some (v ∷ vs)) (stored_value column (eval e row)) (stored_values columns es row)
 
 -- The row that the columns keep of what the expressions give, read on another row: 105 of a column that can't hold its
 -- value, rounded to its scale, then 106 of a column that refuses NULL, then 120.
 abbrev pub built : List Column → List Expr → List Value → Result (List Value) Rule
 built columns es row =
     unless code.OutOfRange (first_refusing code.OutOfRange columns es row)
-    (unless code.NullNotAllowed (first_refusing code.NullNotAllowed columns es row) (or_overflow (stored_values columns es row)))
+    (unless code.NullNotAllowed (first_refusing code.NullNotAllowed columns es row)
+    (or_overflow (stored_values columns es row)))
 
 -- without a condition each row is selected
 abbrev pub selects : Option Cond → List Value → Option Truth
@@ -114,7 +117,8 @@ passes_rows s t (Insert es) = not (nat_lt (len (table_at s t)) (greatest Rows))
 passes_rows s t (Update es filter) = false
 passes_rows s t (Delete filter) = false
 
--- the limits: first that of the transaction's operations, of which so many may still come, then that of the table's rows
+-- the limits: first that of the transaction's operations, of which so many may still come, then that of the table's
+-- rows
 abbrev pub within_limits : ℕ → TableState → Change → List Op → Result (List Op) Rule
 within_limits room s change ops =
     if nat_lt room (length ops) then Err (limit Operations)

@@ -64,7 +64,8 @@ fn stored_values<C: Columns>(
     exprs: &[Expr],
     on: &C,
 ) -> Result<Option<Vec<Value>>, AllocError>
-    ensures { IfOk result (λ values. option_map (λ v. v.items) values ≡ stored_values columns.now exprs.now (C.values on.now)) }
+    ensures { IfOk result (λ values. option_map (λ v. v.items) values
+        ≡ stored_values columns.now exprs.now (C.values on.now)) }
 {
     let mut values = Vec::with_capacity(alloc, columns.len())?;
     let mut place: usize = 0;

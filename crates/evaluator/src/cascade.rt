@@ -49,7 +49,8 @@ fn delete_children<S: Scan>(
     key: &Key,
     out: &mut Capped<Op>,
 ) -> Result<(), AllocError>
-    ensures { OnOk result (out.new ≡ extended out.old (flat_map (deleted depth (S.state scan.now) child) (referring (S.state scan.now) key.now child))) }
+    ensures { OnOk result (out.new ≡ extended out.old
+        (flat_map (deleted depth (S.state scan.now) child) (referring (S.state scan.now) key.now child))) }
 {
     let mut from: usize = 0;
     let end = scan.len(child);

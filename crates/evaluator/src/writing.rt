@@ -30,12 +30,13 @@ use tier_base::{Limit, TableId};
 /// Each number of a new row is rounded to its column's scale, half away from zero, before it is seen whether it fits.
 ///
 /// The refusal is the first broken rule, row by row: 120 of its condition, 105 of the first column that can't hold its
-/// value, 106 of the first that refuses NULL, 120 of an expression. Then 119 of the transaction's operations, and 119 of
-/// the table's rows. It is 102 where there is no such table. Whether keys, parents and children allow the operations is
-/// told where they are applied. After a refusal for want of memory, as after all others, nothing is changed.
+/// value, 106 of the first that refuses NULL, 120 of an expression. Then 119 of the transaction's operations, and 119
+/// of the table's rows. It is 102 where there is no such table. Whether keys, parents and children allow the operations
+/// is told where they are applied. After a refusal for want of memory, as after all others, nothing is changed.
 ///
 /// Where the condition has no arithmetic and names the whole primary key, the row is looked up, and no other is read;
-/// where it so names the whole foreign key, the rows of that parent are. (TimesTen SQL Reference, INSERT, UPDATE, DELETE.)
+/// where it so names the whole foreign key, the rows of that parent are. (TimesTen SQL Reference, INSERT, UPDATE,
+/// DELETE.)
 pub fn effects<S: Scan>(
     alloc: Global,
     change: &Change,
@@ -107,7 +108,8 @@ fn change_rows<S: Scan>(
     requires its_def { slice_get (S.state scan.now).schema table.0 ≡ Some def.now }
     requires under_keys { IsUnderKeys def.now.primary_key (table_at (S.state scan.now) table) }
     requires fit { HasFit def.now.columns (table_at (S.state scan.now) table) }
-    ensures { Adds (each (done_on (S.state scan.now) table def.now action.now) (values (table_at (S.state scan.now) table))) result out.old out.new }
+    ensures { Adds (each (done_on (S.state scan.now) table def.now action.now)
+        (values (table_at (S.state scan.now) table))) result out.old out.new }
 {
     match selected_key(
         alloc,
@@ -135,7 +137,8 @@ fn change_many<S: Scan>(
 ) -> Result<(), Refused>
     requires its_def { slice_get (S.state scan.now).schema table.0 ≡ Some def.now }
     requires fit { HasFit def.now.columns (table_at (S.state scan.now) table) }
-    ensures { Adds (each (done_on (S.state scan.now) table def.now action.now) (values (table_at (S.state scan.now) table))) result out.old out.new }
+    ensures { Adds (each (done_on (S.state scan.now) table def.now action.now)
+        (values (table_at (S.state scan.now) table))) result out.old out.new }
 {
     match selected_parent(
         alloc,
@@ -160,7 +163,8 @@ fn change_children<S: Scan>(
     out: &mut Capped<Op>,
 ) -> Result<(), Refused>
     requires { ChangesChildren (S.state scan.now) table def.now action.now key.now }
-    ensures { Adds (each (done_on (S.state scan.now) table def.now action.now) (values (table_at (S.state scan.now) table))) result out.old out.new }
+    ensures { Adds (each (done_on (S.state scan.now) table def.now action.now)
+        (values (table_at (S.state scan.now) table))) result out.old out.new }
 {
     let mut from: usize = 0;
     let end = scan.len(table);
@@ -187,7 +191,8 @@ fn change_all<S: Scan>(
     action: &Action,
     out: &mut Capped<Op>,
 ) -> Result<(), Refused>
-    ensures { Adds (each (done_on (S.state scan.now) table def.now action.now) (values (table_at (S.state scan.now) table))) result out.old out.new }
+    ensures { Adds (each (done_on (S.state scan.now) table def.now action.now)
+        (values (table_at (S.state scan.now) table))) result out.old out.new }
 {
     for place in 0..scan.len(table) {
         match scan.row(table, place) {

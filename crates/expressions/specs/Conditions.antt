@@ -1,6 +1,6 @@
--- The truth of conditions: none where an operand has no value, since every operand is evaluated. Numbers are compared by
--- what they stand for. (TimesTen SQL Reference, "Search conditions", "Comparison predicate", "BETWEEN predicate", "IN predicate", "IS NULL
--- predicate"; that every operand is evaluated is this project's rule.)
+-- The truth of conditions: none where an operand has no value, since every operand is evaluated. Numbers are compared
+-- by what they stand for. (TimesTen SQL Reference, "Search conditions", "Comparison predicate", "BETWEEN predicate",
+-- "IN predicate", "IS NULL predicate"; that every operand is evaluated is this project's rule.)
 
 use Rattle.std.specs.Prelude.{List, [], ◌∷◌, Option, Some, None, Bool, true, false, ◌||◌, not, if◌then◌else◌}
 use Rattle.std.specs.Option.{option_map}
@@ -54,7 +54,8 @@ among_of (Some a) es row = among a es row
 abbrev pub holds : Cond → List Value → Option Truth
 holds (cond.Compared k a b) row = comparison k (eval a row) (eval b row)
 holds (cond.IsNull a) row = option_map (λ v. truth_of (is_null v)) (eval a row)
-holds (cond.Between a low high) row = both_hold (comparison is.AtLeast (eval a row) (eval low row)) (comparison is.AtMost (eval a row) (eval high row))
+holds (cond.Between a low high) row =
+    both_hold (comparison is.AtLeast (eval a row) (eval low row)) (comparison is.AtMost (eval a row) (eval high row))
 holds (cond.In a es) row = among_of (eval a row) es row
 holds (cond.Not' p x) row = option_map negation (holds x row)
 holds (cond.And' p x q y) row = both_hold (holds x row) (holds y row)

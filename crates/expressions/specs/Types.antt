@@ -77,7 +77,8 @@ all_agree family (e ∷ es) columns = agrees family (family_of e columns) && all
 abbrev pub has_sound_types : Cond → List Family → Bool
 has_sound_types (cond.Compared k a b) columns = agrees (family_of a columns) (family_of b columns)
 has_sound_types (cond.IsNull a) columns = is_ok (family_of a columns)
-has_sound_types (cond.Between a low high) columns = agrees (family_of a columns) (family_of low columns) && agrees (family_of a columns) (family_of high columns)
+has_sound_types (cond.Between a low high) columns = agrees (family_of a columns) (family_of low columns)
+    && agrees (family_of a columns) (family_of high columns)
 has_sound_types (cond.In a es) columns = is_ok (family_of a columns) && all_agree (family_of a columns) es columns
 has_sound_types (cond.Not' p x) columns = has_sound_types x columns
 has_sound_types (cond.And' p x q y) columns = has_sound_types x columns && has_sound_types y columns

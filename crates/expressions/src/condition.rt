@@ -63,9 +63,9 @@ impl Drop for Cond {
     }
 }
 
-/// What the condition is on these columns. None where the units of a number leave 64 signed bits in any part of it, or its
-/// scale passes 18: each operand
-/// of AND, OR, IN and BETWEEN is evaluated, whatever the others are. It takes no memory.
+/// What the condition is on these columns. None where the units of a number leave 64 signed bits in any part of it, or
+/// its scale passes 18: each operand of AND, OR, IN and BETWEEN is evaluated, whatever the others are. It takes no
+/// memory.
 ///
 /// (TimesTen SQL Reference, "Search conditions"; that every operand is evaluated is this project's rule.)
 pub fn truth_on<C: Columns>(cond: &Cond, columns: &C) -> Option<Truth>
@@ -109,7 +109,8 @@ pub fn truth_on<C: Columns>(cond: &Cond, columns: &C) -> Option<Truth>
 
 /// What the condition is on a row. It takes no memory.
 ///
-/// The refusal is 120, exactly where the units of a number leave 64 signed bits in any part of it, or its scale passes 18.
+/// The refusal is 120, exactly where the units of a number leave 64 signed bits in any part of it, or its scale passes
+/// 18.
 pub fn holds(cond: &Cond, row: &Row) -> Result<Truth, Refused>
     ensures truth { IfOk result (λ truth. holds cond.now row.now ≡ Some truth) }
     ensures refused { IfErr result (IsOverflow (holds cond.now row.now)) }
@@ -129,7 +130,8 @@ fn comparison<'a, C: Columns>(
     right: &'a Expr,
     columns: &'a C,
 ) -> Option<Truth>
-    ensures { result ≡ comparison comparator (eval left.now (C.values columns.now)) (eval right.now (C.values columns.now)) }
+    ensures { result ≡ comparison comparator (eval left.now (C.values columns.now))
+        (eval right.now (C.values columns.now)) }
 {
     match (value_of(left, columns), value_of(right, columns)) {
         (Some(left), Some(right)) => Some(compared(comparator, &left, &right)),

@@ -66,8 +66,8 @@ pub fn value_of<'a, C: Columns>(expr: &'a Expr, columns: &'a C) -> Option<Operan
 
 /// What the expression is on a row.
 ///
-/// `Refused::Rule` is 120 exactly where the units of a number leave 64 signed bits in any part of it, or its scale passes
-/// 18. `Refused::Memory` comes where memory is wanting for the copy.
+/// `Refused::Rule` is 120 exactly where the units of a number leave 64 signed bits in any part of it, or its scale
+/// passes 18. `Refused::Memory` comes where memory is wanting for the copy.
 pub fn eval(alloc: Global, expr: &Expr, row: &Row) -> Result<Value, Refused>
     ensures value { IfOk result (λ value. eval expr.now row.now ≡ Some value) }
     ensures refused { IfErr result (IsOverflow (eval expr.now row.now)) }

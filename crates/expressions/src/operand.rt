@@ -32,7 +32,8 @@ impl<'a> Operand<'a> {
         }
     }
 
-    /// The order of what the values stand for: numbers and times by size, texts by bytes, NULL last. It takes no memory.
+    /// The order of what the values stand for: numbers and times by size, texts by bytes, NULL last. It takes no
+    /// memory.
     pub fn order(&self, other: &Operand<'a>) -> Ordering
         ensures { result ≡ value_order (shown self.now) (shown other.now) }
     {

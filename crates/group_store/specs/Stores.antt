@@ -84,7 +84,8 @@ pub record SameButSpare (old new : Kept) : Type 0 where
 -- the keys in the order of last use are those of the root rows, each once
 pub record HasRootKeys (s : Kept) : Type 0 where
   pub are : (key : List Value) → is_among s.keys key ≡ fm.contains_key (kept_at s.tables 0) key
-  pub once : (key : List Value) → fm.contains_key (kept_at s.tables 0) key ≡ true → filter (is_same key) s.keys ≡ key ∷ []
+  pub once : (key : List Value) → fm.contains_key (kept_at s.tables 0) key ≡ true
+      → filter (is_same key) s.keys ≡ key ∷ []
 
 -- a root table with these columns and without rows
 pub record IsNewStore (root : TableId) (primary columns : List ℕ) (s : Kept) : Type 0 where

@@ -21,7 +21,8 @@ pub record IsEntryIn (parents : Parents) (rows : Table) (entry : List Value) : T
 
 -- each row has an entry, and there are no others
 pub record IsIndexOf (parents : Parents) (rows : Table) : Type 0 where
-  pub has : (key row : List Value) → get rows key ≡ Some row → contains_key parents.entries (entry_of parents key row) ≡ true
+  pub has : (key row : List Value) → get rows key ≡ Some row
+      → contains_key parents.entries (entry_of parents key row) ≡ true
   pub only : (entry : List Value) → contains_key parents.entries entry ≡ true → IsEntryIn parents rows entry
 
 -- where there is an index, it is that of the rows
@@ -39,7 +40,8 @@ without_entry entry parents = record { columns = parents.columns; entries = remo
 
 -- what stands behind the front of so many values, where this is the front
 abbrev pub behind : List Value → ℕ → List Value → Option (List Value)
-behind values count front = if nat_le count (length values) && is_same (take count values) front then Some (drop count values) else None
+behind values count front =
+    if nat_le count (length values) && is_same (take count values) front then Some (drop count values) else None
 
 -- this is the key of the first row of the parent whose key isn't below the least
 pub record IsFirst (columns : List ℕ) (rows : Table) (parent least key : List Value) : Type 0 where
@@ -47,9 +49,11 @@ pub record IsFirst (columns : List ℕ) (rows : Table) (parent least key : List 
   pub there : get rows key ≡ Some row
   pub child : key_of columns row ≡ parent
   pub from : key_order key least ≢ Less
-  pub first : (other row : List Value) → get rows other ≡ Some row → key_of columns row ≡ parent → key_order other least ≢ Less → key_order other key ≢ Less
+  pub first : (other row : List Value) → get rows other ≡ Some row → key_of columns row ≡ parent
+      → key_order other least ≢ Less → key_order other key ≢ Less
 
 -- the key of the first row of the parent whose key isn't below the least, where there is such a row
 abbrev pub IsFirstOf : List ℕ → Table → List Value → List Value → Option (List Value) → Type 0
 IsFirstOf columns rows parent least (Some key) = IsFirst columns rows parent least key
-IsFirstOf columns rows parent least None = (key row : List Value) → get rows key ≡ Some row → key_of columns row ≡ parent → key_order key least ≡ Less
+IsFirstOf columns rows parent least None = (key row : List Value) → get rows key ≡ Some row
+    → key_of columns row ≡ parent → key_order key least ≡ Less

@@ -74,7 +74,8 @@ impl Parents {
 
     // The entry of a row gives way to that of the row that takes its place.
     fn moved(self, alloc: Global, key: &Key, old: &Row, new: &Row) -> Result<Parents, AllocError>
-        ensures { IfOk result (λ moved. moved ≡ with_entry (entry_of self key.now new.now) (without_entry (entry_of self key.now old.now) self)) }
+        ensures { IfOk result (λ moved. moved
+            ≡ with_entry (entry_of self key.now new.now) (without_entry (entry_of self key.now old.now) self)) }
     {
         let mut moved = self;
         let left = moved.entry_of(alloc, key, old)?;
@@ -86,7 +87,8 @@ impl Parents {
 
     // None where memory is wanting. It takes none where the parent stays.
     fn shifted(self, alloc: Global, key: &Key, old: &Row, new: &Row) -> Option<Parents>
-        ensures { (rows : Table) → IsIndexOf self rows → map.get rows key.now ≡ Some old.now → IsIndexed result (map.insert rows key.now new.now) }
+        ensures { (rows : Table) → IsIndexOf self rows → map.get rows key.now ≡ Some old.now
+            → IsIndexed result (map.insert rows key.now new.now) }
     {
         match first_change(self.columns.as_slice(), old.values(), new.values()) {
             None => Some(self),
@@ -99,7 +101,8 @@ impl Parents {
 
     // None where memory is wanting.
     fn left(self, alloc: Global, key: &Key, row: &Row) -> Option<Parents>
-        ensures { (rows : Table) → IsIndexOf self rows → map.get rows key.now ≡ Some row.now → IsIndexed result (map.remove rows key.now) }
+        ensures { (rows : Table) → IsIndexOf self rows → map.get rows key.now ≡ Some row.now
+            → IsIndexed result (map.remove rows key.now) }
     {
         match self.entry_of(alloc, key, row) {
             Err(_) => None,
@@ -113,7 +116,8 @@ impl Parents {
 
     // None where memory is wanting.
     fn joined(self, alloc: Global, key: &Key, row: &Row) -> Option<Parents>
-        ensures { (rows : Table) → IsIndexOf self rows → map.get rows key.now ≡ None → IsIndexed result (map.insert rows key.now row.now) }
+        ensures { (rows : Table) → IsIndexOf self rows → map.get rows key.now ≡ None
+            → IsIndexed result (map.insert rows key.now row.now) }
     {
         match self.with_row(alloc, key, row) {
             Ok(joined) => Some(joined),
@@ -132,7 +136,8 @@ impl Parents {
 
     // The key of the first row of a parent whose key isn't below the least.
     fn first_of<'a>(&'a self, parent: &[Value], least: &[Value]) -> Option<&'a [Value]>
-        ensures { (rows : Table) → IsIndexOf self.now rows → IsFirstOf self.now.columns rows parent.now least.now (option_copied result) }
+        ensures { (rows : Table) → IsIndexOf self.now rows
+            → IsFirstOf self.now.columns rows parent.now least.now (option_copied result) }
     {
         let place = self.entries.first_at_least_parts(parent, least);
         if place >= self.entries.len() {

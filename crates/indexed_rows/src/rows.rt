@@ -112,7 +112,8 @@ impl Rows {
         ensures bound { IsSearchInRange result (map.len self.now) }
         ensures found { IfOk result (IsKeyAt (map.entries self.now) key.now) }
         ensures absent { IfErr result (IsGapFor (map.entries self.now) key.now) }
-        ensures split { MatchResult result (IsSplitAt (map.entries self.now) key.now) (IsSplitAt (map.entries self.now) key.now) }
+        ensures split { MatchResult result (IsSplitAt (map.entries self.now) key.now)
+            (IsSplitAt (map.entries self.now) key.now) }
     {
         self.entries.search(&ByKey(key))
     }
@@ -139,7 +140,8 @@ impl Rows {
 
     /// The place of a key in key order, from 0.
     pub fn position(&self, key: &Key) -> Option<usize>
-        ensures { MatchOption result (map.contains_key self.now key.now ≡ false) (λ place. slice_get (map.keys self.now) place ≡ Some key.now) }
+        ensures { MatchOption result (map.contains_key self.now key.now ≡ false)
+            (λ place. slice_get (map.keys self.now) place ≡ Some key.now) }
     {
         match self.search(key) {
             Ok(place) => Some(place),
@@ -163,7 +165,8 @@ impl Rows {
 
     fn search_parts(&self, head: &[Value], tail: &[Value]) -> Result<usize, usize>
         ensures bound { IsSearchInRange result (map.len self.now) }
-        ensures split { MatchResult result (IsSplitAt (map.entries self.now) (head.now ++ tail.now)) (IsSplitAt (map.entries self.now) (head.now ++ tail.now)) }
+        ensures split { MatchResult result (IsSplitAt (map.entries self.now) (head.now ++ tail.now))
+            (IsSplitAt (map.entries self.now) (head.now ++ tail.now)) }
     {
         self.entries.search(&ByParts(head, tail))
     }
@@ -172,8 +175,10 @@ impl Rows {
     /// where each is below it. It takes no memory.
     pub fn first_at_least_parts(&self, head: &[Value], tail: &[Value]) -> usize
         ensures bound { result ≤ map.len self.now }
-        ensures below { All (λ other. key_order other (head.now ++ tail.now) ≡ Ordering.Less) (take result (map.keys self.now)) }
-        ensures at_least { All (λ other. key_order other (head.now ++ tail.now) ≢ Ordering.Less) (drop result (map.keys self.now)) }
+        ensures below { All (λ other. key_order other (head.now ++ tail.now) ≡ Ordering.Less)
+            (take result (map.keys self.now)) }
+        ensures at_least { All (λ other. key_order other (head.now ++ tail.now) ≢ Ordering.Less)
+            (drop result (map.keys self.now)) }
     {
         match self.search_parts(head, tail) {
             Ok(found) => found,
@@ -202,7 +207,8 @@ impl Rows {
     /// It fails for want of memory alone, and the rows then are as they were.
     pub fn insert(&mut self, key: Key, row: Row) -> Result<bool, AllocError>
         ensures was_new { IfOk result (λ was_new. was_new ≡ not (map.contains_key self.old key)) }
-        ensures ok { OnOk result (self.new ≡ (if map.contains_key self.old key then self.old else map.insert self.old key row)) }
+        ensures ok { OnOk result (self.new ≡ (if map.contains_key self.old key then self.old else map.insert self.old
+            key row)) }
         ensures err { OnErr result (self.new ≡ self.old) }
     {
         match self.search(&key) {
@@ -246,7 +252,8 @@ impl Rows {
     /// Puts a row back where its key has none. It needs no memory.
     pub fn put_back(&mut self, spare: Spare)
         requires { map.len self.old + 1 < 2 ^ 63 }
-        ensures { self.new ≡ (if map.contains_key self.old spare.0 then self.old else map.insert self.old spare.0 spare.1) }
+        ensures { self.new ≡ (if map.contains_key self.old spare.0 then self.old else map.insert self.old spare.0
+            spare.1) }
     {
         match self.search(spare.key()) {
             Ok(_) => {}

@@ -16,7 +16,8 @@ added rows key row = if contains_key rows key then rows else insert rows key row
 -- of the first n rows of the table those that pass the test
 pub record Gathers (test : List Value → Bool) (table : Table) (n : ℕ) (out : Table) : Type 0 where
   pub sound : (key row : List Value) → get out key ≡ Some row → (get table key ≡ Some row) × (test row ≡ true)
-  pub whole : (i : ℕ) → i < n → (key row : List Value) → slice_get (entries table) i ≡ Some (key, row) → test row ≡ true → contains_key out key ≡ true
+  pub whole : (i : ℕ) → i < n → (key row : List Value) → slice_get (entries table) i ≡ Some (key, row) → test row ≡ true
+      → contains_key out key ≡ true
 
 -- the row refers to this parent, and the child's WHERE selects it
 abbrev pub is_under : TableState → Child → List Value → List Value → Bool

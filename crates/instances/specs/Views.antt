@@ -1,5 +1,5 @@
--- The view of a cache group, and its instances. (TimesTen Cache User's Guide, "Cache groups" and "Cache instances"; that
--- a WHERE that is 120 on a row doesn't select it, and refuses nothing, is this project's rule.)
+-- The view of a cache group, and its instances. (TimesTen Cache User's Guide, "Cache groups" and "Cache instances";
+-- that a WHERE that is 120 on a row doesn't select it, and refuses nothing, is this project's rule.)
 
 use Rattle.std.specs.Prelude.{ℕ, List, [], ◌∷◌, ◌++◌, Option, Some, None, Bool, true, false, ◌&&◌, slice_get, unwrap_or}
 use Rattle.std.specs.FinMap.{empty, contains_key, get, retain_keys}
@@ -54,7 +54,8 @@ kept_at kept place = unwrap_or (slice_get kept place) empty
 -- what is kept of the earlier tables, and behind it what is kept of these children in turn
 abbrev pub with_children : TableState → List Child → List Table → List Table
 with_children s [] kept = kept
-with_children s (child ∷ children) kept = with_children s children (kept ++ child_rows s (kept_at kept child.parent) child ∷ [])
+with_children s (child ∷ children) kept =
+    with_children s children (kept ++ child_rows s (kept_at kept child.parent) child ∷ [])
 
 -- a root row is in the view where the root's WHERE selects it
 abbrev pub root_rows : TableState → Root → Table

@@ -94,7 +94,8 @@ fn referring_rows(
     parents: &Rows,
     def: Option<&TableDef>,
 ) -> Result<Rows, AllocError>
-    ensures { IfOk result (λ out. out ≡ rows_where (λ row. selects filter.now row && refers_to_one parents.now (option_copied def.entry) row) rows.now) }
+    ensures { IfOk result (λ out. out ≡ rows_where (λ row. selects filter.now row
+        && refers_to_one parents.now (option_copied def.entry) row) rows.now) }
 {
     let mut out = Rows::new(alloc);
     for place in 0..rows.len() {
@@ -113,7 +114,8 @@ fn is_kept(
     def: Option<&TableDef>,
     row: &Row,
 ) -> Result<bool, AllocError>
-    ensures { IfOk result (λ kept. kept ≡ (selects filter.now row.now && refers_to_one parents.now (option_copied def.entry) row.now)) }
+    ensures { IfOk result (λ kept. kept ≡ (selects filter.now row.now
+        && refers_to_one parents.now (option_copied def.entry) row.now)) }
 {
     if selects(filter, row) {
         refers_to_one(alloc, parents, def, row)

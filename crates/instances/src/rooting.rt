@@ -67,7 +67,8 @@ fn root_key(
     root: &Root,
     key: &Key,
 ) -> Result<Option<Key>, AllocError>
-    ensures { IfOk result (λ found. found ≡ (if map.contains_key (table_at tables.now root.now.table) key.now then Some key.now else None)) }
+    ensures { IfOk result (λ found. found ≡ (if map.contains_key
+        (table_at tables.now root.now.table) key.now then Some key.now else None)) }
 {
     match tables.find(root.table, key) {
         None => Ok(None),

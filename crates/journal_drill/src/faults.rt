@@ -10,8 +10,8 @@ use std::alloc::Global;
 /// No task has more calls of the disk than this.
 const MOST: u64 = 16;
 
-/// What an opening finds, with each pick, after the task ended early at each of its calls of the disk, before the call's
-/// effect or after it.
+/// What an opening finds, with each pick, after the task ended early at each of its calls of the disk, before the
+/// call's effect or after it.
 pub fn tell_faults(alloc: Global, task: Task, out: &mut Vec<u8>) -> Result<(), DrillError> {
     for call in 0..MOST {
         let before = failed(alloc, task, call, When::Before)?;

@@ -1,8 +1,8 @@
 //! `journal_drill`: the journal over a disk in memory, as it is written, stopped and damaged. It is for tests.
 //!
-//! It takes no input. It writes what stands in the slots after calls of the journal; for each call what an opening finds
-//! after a stop at each moment, and after a fault of each call of the disk, with each of four picks; and what it finds in
-//! slots that are damaged. Its status is 0, or 99 where memory is wanting or a call fails that shouldn't.
+//! It takes no input. It writes what stands in the slots after calls of the journal; for each call what an opening
+//! finds after a stop at each moment, and after a fault of each call of the disk, with each of four picks; and what it
+//! finds in slots that are damaged. Its status is 0, or 99 where memory is wanting or a call fails that shouldn't.
 #![tactic(auto)]
 
 mod damage;

@@ -32,11 +32,13 @@ abbrev pub as_at : {X Y : Type 0} → (X → Y) → (List ℕ → Option (X × L
 as_at f at bytes = at bytes >>= λ x. Some (f x.0, x.1)
 
 -- one field and then another
-abbrev pub both_at : {X Y : Type 0} → (List ℕ → Option (X × List ℕ)) → (List ℕ → Option (Y × List ℕ)) → List ℕ → Option ((X × Y) × List ℕ)
+abbrev pub both_at : {X Y : Type 0} → (List ℕ → Option (X × List ℕ)) → (List ℕ → Option (Y × List ℕ)) → List ℕ
+    → Option ((X × Y) × List ℕ)
 both_at a b bytes = a bytes >>= λ x. b x.1 >>= λ y. Some ((x.0, y.0), y.1)
 
 -- a number, and then a field of which it says how long it is
-abbrev pub then_at : {Y : Type 0} → (List ℕ → Option (ℕ × List ℕ)) → (ℕ → List ℕ → Option (Y × List ℕ)) → List ℕ → Option (Y × List ℕ)
+abbrev pub then_at : {Y : Type 0} → (List ℕ → Option (ℕ × List ℕ)) → (ℕ → List ℕ → Option (Y × List ℕ)) → List ℕ
+    → Option (Y × List ℕ)
 then_at a b bytes = a bytes >>= λ n. b n.0 n.1
 
 -- a field that passes a test
@@ -57,7 +59,11 @@ byte_at [] = None
 byte_at (b ∷ rest) = Some (b, rest)
 
 unfoldable pub number_at : Width → List ℕ → Option (ℕ × List ℕ)
-number_at w bytes = if nat_lt (length bytes) (byte_len w) then None else Some (from_be_bytes w (take (byte_len w) bytes), drop (byte_len w) bytes)
+number_at w bytes =
+    if nat_lt (length bytes) (byte_len w) then None else Some (
+      from_be_bytes w (take (byte_len w) bytes),
+      drop (byte_len w) bytes,
+    )
 
 unfoldable pub bytes_at : ℕ → List ℕ → Option (List ℕ × List ℕ)
 bytes_at n bytes = if nat_lt (length bytes) n then None else Some (take n bytes, drop n bytes)
@@ -95,7 +101,9 @@ abbrev pub is_scale : ℕ → Bool
 is_scale scale = nat_lt 0 scale && nat_le scale 18
 
 unfoldable pub scaled_at : List ℕ → Option (Value × List ℕ)
-scaled_at bytes = as_at (λ p. Number (record { units = p.1; scale = p.0 })) (λ b. both_at (λ b. test_at (λ n. is_scale n) (λ b. byte_at b) b) (λ b. signed_at b) b) bytes
+scaled_at bytes =
+    as_at (λ p. Number (record { units = p.1; scale = p.0 }))
+    (λ b. both_at (λ b. test_at (λ n. is_scale n) (λ b. byte_at b) b) (λ b. signed_at b) b) bytes
 
 abbrev pub tagged_value_at : ℕ → ℕ → List ℕ → Option (Value × List ℕ)
 tagged_value_at version tag rest =
@@ -118,7 +126,9 @@ unfoldable pub insert_at : ℕ → List ℕ → Option (Op × List ℕ)
 insert_at version bytes = as_at (λ p. Insert p.0 p.1) (λ b. both_at (λ b. name_at b) (λ b. row_at version b) b) bytes
 
 unfoldable pub update_at : ℕ → List ℕ → Option (Op × List ℕ)
-update_at version bytes = as_at (λ p. Update p.0 p.1.0 p.1.1) (λ b. both_at (λ b. name_at b) (λ b. both_at (λ b. row_at version b) (λ b. row_at version b) b) b) bytes
+update_at version bytes =
+    as_at (λ p. Update p.0 p.1.0 p.1.1) (λ b.
+    both_at (λ b. name_at b) (λ b. both_at (λ b. row_at version b) (λ b. row_at version b) b) b) bytes
 
 unfoldable pub delete_at : ℕ → List ℕ → Option (Op × List ℕ)
 delete_at version bytes = as_at (λ p. Delete p.0 p.1) (λ b. both_at (λ b. name_at b) (λ b. row_at version b) b) bytes
@@ -138,7 +148,9 @@ abbrev pub is_op_count : ℕ → Bool
 is_op_count n = nat_lt 0 n && nat_le n 10000
 
 unfoldable pub ops_at : ℕ → List ℕ → Option (List Op × List ℕ)
-ops_at version bytes = then_at (λ b. test_at (λ n. is_op_count n) (λ b. number_at w16 b) b) (λ n b. many_at (λ b. op_at version b) n b) bytes
+ops_at version bytes =
+    then_at (λ b. test_at (λ n. is_op_count n) (λ b. number_at w16 b) b)
+    (λ n b. many_at (λ b. op_at version b) n b) bytes
 
 unfoldable pub transaction_at : ℕ → List ℕ → Option ((ℕ × List Op) × List ℕ)
 transaction_at version bytes = both_at (λ b. number_at w64 b) (λ b. ops_at version b) bytes
@@ -167,13 +179,17 @@ abbrev pub state_of : ℕ → Option GroupState
 state_of b = if b == 0 then Some Off else (if b == 1 then Some Paused else (if b == 2 then Some On else None))
 
 unfoldable pub turned_at : List ℕ → Option (Entry × List ℕ)
-turned_at bytes = as_at (λ p. Turned p.0 p.1) (λ b. both_at (λ b. name_at b) (λ b. code_at (λ n. state_of n) (λ b. byte_at b) b) b) bytes
+turned_at bytes =
+    as_at (λ p. Turned p.0 p.1) (λ b. both_at (λ b. name_at b)
+    (λ b. code_at (λ n. state_of n) (λ b. byte_at b) b) b) bytes
 
 abbrev pub flag_of : ℕ → Option Bool
 flag_of b = if b == 0 then Some false else (if b == 1 then Some true else None)
 
 unfoldable pub loaded_at : List ℕ → Option (Entry × List ℕ)
-loaded_at bytes = as_at (λ p. Loaded p.0 p.1) (λ b. both_at (λ b. name_at b) (λ b. code_at (λ n. flag_of n) (λ b. byte_at b) b) b) bytes
+loaded_at bytes =
+    as_at (λ p. Loaded p.0 p.1) (λ b. both_at (λ b. name_at b)
+    (λ b. code_at (λ n. flag_of n) (λ b. byte_at b) b) b) bytes
 
 abbrev pub tagged_entry_at : ℕ → ℕ → List ℕ → Option (Entry × List ℕ)
 tagged_entry_at version tag rest =

@@ -54,7 +54,8 @@ pub fn group_line_law()
 {}
 
 /// The journal stays the tier's behind a round, and what comes behind one: ttDrain (`drains`), LOAD CACHE GROUP
-/// (`loads`), REFRESH CACHE GROUP (`refreshes`), DROP CACHE GROUP of a session that has no uncommitted writes (`drops`).
+/// (`loads`), REFRESH CACHE GROUP (`refreshes`), DROP CACHE GROUP of a session that has no uncommitted writes
+/// (`drops`).
 pub fn round_line_law()
     ensures drains { KeepsJournal Drains }
     ensures loads { (load : Load) → KeepsJournal (Loads load) }

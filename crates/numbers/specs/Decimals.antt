@@ -17,7 +17,8 @@ are_held units = not (int_lt units (negsuc 9223372036854775807)) && not (int_lt 
 
 -- the decimal, where 64 signed bits hold its units and its scale is up to 18
 abbrev pub number_of : ℤ → ℕ → Option Decimal
-number_of units scale = if are_held units && nat_le scale 18 then Some (record { units = units; scale = scale }) else None
+number_of units scale =
+    if are_held units && nat_le scale 18 then Some (record { units = units; scale = scale }) else None
 
 -- its units have at most so many digits
 abbrev pub has_precision : ℕ → Decimal → Bool

@@ -54,7 +54,8 @@ fraction_digits bytes = drop (point_place bytes + 1) bytes
 -- one digit or more, and where a point stands behind them, one digit or more behind it
 abbrev pub are_decimal_digits : List ℕ → Bool
 are_decimal_digits bytes =
-    nat_lt 0 (point_place bytes) && not (point_place bytes + 1 == length bytes) && list_all is_ascii_digit (whole_digits bytes) && list_all is_ascii_digit (fraction_digits bytes)
+    nat_lt 0 (point_place bytes) && not (point_place bytes + 1 == length bytes)
+    && list_all is_ascii_digit (whole_digits bytes) && list_all is_ascii_digit (fraction_digits bytes)
 
 -- the units that they write
 abbrev pub units_in : List ℕ → ℕ
@@ -64,8 +65,8 @@ abbrev pub signed : Bool → ℕ → ℤ
 signed true units = neg_ℤ (pos units)
 signed false units = pos units
 
--- the number that a text writes: its scale is the number of digits behind its point; none of other texts, of more than 18
--- digits behind the point and of units that 64 signed bits don't hold
+-- the number that a text writes: its scale is the number of digits behind its point; none of other texts, of more than
+-- 18 digits behind the point and of units that 64 signed bits don't hold
 abbrev pub number_read : List ℕ → Option Decimal
 number_read bytes =
     if are_decimal_digits (unsigned bytes)

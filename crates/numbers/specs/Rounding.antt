@@ -1,5 +1,5 @@
--- Rounding to a scale, half away from zero. (TimesTen SQL Reference, "NUMBER"; the half away from zero is this project's
--- rule.)
+-- Rounding to a scale, half away from zero. (TimesTen SQL Reference, "NUMBER"; the half away from zero is this
+-- project's rule.)
 
 use Rattle.std.specs.Prelude.{ℕ, ◌+◌, ◌-◌, ◌/◌, ◌^◌, nat_le, if◌then◌else◌, Option, Some, None, ℤ, pos, negsuc, neg_ℤ, suc}
 use Rattle.std.specs.Option.{option_and_then}
@@ -21,4 +21,5 @@ rounded_to scale number =
 -- the number itself with this scale; none where there is none
 abbrev pub rescaled_to : ℕ → Decimal → Option Decimal
 rescaled_to scale number =
-    option_and_then (λ rounded. if is_eq (order_of_numbers rounded number) then Some rounded else None) (rounded_to scale number)
+    option_and_then (λ rounded. if is_eq (order_of_numbers rounded number) then Some rounded else None)
+    (rounded_to scale number)

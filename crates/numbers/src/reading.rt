@@ -12,8 +12,8 @@ use crate::number::{GREATEST_SCALE, Number};
 const LIMIT: u128 = 18_446_744_073_709_551_616;
 
 impl Number {
-    /// The number that the text writes: digits, then a point and digits behind it or neither, with or without a `-` before
-    /// them. Its scale is the number of digits behind the point. Leading zeros are as one likes.
+    /// The number that the text writes: digits, then a point and digits behind it or neither, with or without a `-`
+    /// before them. Its scale is the number of digits behind the point. Leading zeros are as one likes.
     ///
     /// None of other texts, of more than 18 digits behind the point, and of units that 64 signed bits don't hold.
     pub fn from_text(text: &[u8]) -> Option<Number>

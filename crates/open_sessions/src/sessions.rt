@@ -213,7 +213,8 @@ impl Sessions {
     /// Whether an open operation of a session writes a key. It takes no memory.
     pub fn writes(&self, id: SessionId, table: TableId, key: &Key) -> bool
         ensures { (schema : List Def) → AreSessions schema self.now
-            → result ≡ is_among (footprint_of schema (open_ops id (seen_all self.now))).written (record { table = table; key = key.now }) }
+            → result ≡ is_among (footprint_of schema (open_ops id (seen_all self.now))).written
+            (record { table = table; key = key.now }) }
     {
         let session = self.first_of_number(id);
         match session {

@@ -40,7 +40,8 @@ pub record IsSettled (history : List Entry) (unsettled : List Sealed) (s : Seale
   pub stands : has_ticket s.ticket.0 history ≡ true
 
 -- these events lead from a history and unsettled transactions to others, over this schema, with these live tables
-abbrev pub Follows : List TableDef → List TableId → List Event → List Entry → List Sealed → List Entry → List Sealed → Type 0
+abbrev pub Follows : List TableDef → List TableId → List Event → List Entry → List Sealed → List Entry → List Sealed
+    → Type 0
 Follows schema live [] history unsettled later left = (later ≡ history) × (left ≡ unsettled)
 Follows schema live (Others ops ∷ events) history unsettled later left =
     OthersMayCome live history ops × Follows schema live events (history ++ Foreign ops ∷ []) unsettled later left

@@ -1,5 +1,5 @@
-//! What happens to a pipeline, a law for each event. All are this project's rules, over the writethrough cache groups of
-//! the TimesTen Cache User's Guide.
+//! What happens to a pipeline, a law for each event. All are this project's rules, over the writethrough cache groups
+//! of the TimesTen Cache User's Guide.
 
 ghost use Rattle.std.specs.Prelude.{◌≡◌, ◌+◌, ◌≤◌, ◌++◌, ◌^◌, ℕ, List, [], ◌∷◌, true};
 ghost use Rattle.table_defs.specs.declared.definition.TableDef.{TableDef};
@@ -73,7 +73,8 @@ pub fn flow_drained_law()
 /// that nothing pending writes (`group`). A group is dropped where what is pending is on tables of the others
 /// (`dropped`).
 pub fn flow_define_law()
-    ensures table { (p : Progress) (us : List Sealed) (x : Pipeline p us) (def : TableDef) → JoinsNone p x.stand.over def
+    ensures table { (p : Progress) (us : List Sealed) (x : Pipeline p us) (def : TableDef)
+        → JoinsNone p x.stand.over def
         → FlowsAs (after_entries p (Definition def ∷ [])) us (with_new def x.stand.over.virtual) }
     ensures group { (p : Progress) (us : List Sealed) (x : Pipeline p us) (g : LiveGroup) → MayDefine p x.stand.over g
         → Pipeline (with_live_group p g) us }

@@ -1,5 +1,6 @@
 -- What the backing database tells of the changes since a position. (This project's model of the backing database;
--- TimesTen Cache User's Guide, "Automatically refreshing a cache group": incremental autorefresh goes by logs of changes.)
+-- TimesTen Cache User's Guide, "Automatically refreshing a cache group": incremental autorefresh goes by logs of
+-- changes.)
 
 use Rattle.std.specs.Prelude.{◌≡◌, ℕ, zero, suc, List, [], ◌∷◌, Option, Some, None, Bool, true, false, ◌||◌, Result, Ok, Err, length, map, slice_get}
 use Rattle.std.specs.List.{flat_map, list_any}
@@ -42,8 +43,9 @@ root_above s tree child row =
     (slice_get s.schema child.table.0))
     (table_of tree child.parent)
 
--- The root key that the row of a change was reached from: a root row's own key, and of a child row that had a parent row
--- the one that this is reached from now. (Where it was reached from another, it changed itself, or one above it did.)
+-- The root key that the row of a change was reached from: a root row's own key, and of a child row that had a parent
+-- row the one that this is reached from now. (Where it was reached from another, it changed itself, or one above it
+-- did.)
 abbrev pub old_root_at : TableState → Tree → RowChange → ℕ → Option (List Value)
 old_root_at s tree change zero = Some change.key
 old_root_at s tree change (suc place) =

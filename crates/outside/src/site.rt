@@ -80,8 +80,8 @@ impl Drop for Instance {
 pub struct Reached {
     /// The position: how many entries the history had.
     pub position: Position,
-    /// The instance; none where the tree doesn't cover the row's table, and where the row, or one that it leads to, isn't
-    /// there.
+    /// The instance; none where the tree doesn't cover the row's table, and where the row, or one that it leads to,
+    /// isn't there.
     pub instance: Option<Instance>,
 }
 
@@ -101,8 +101,8 @@ impl Drop for Reached {
 /// a position that a call tells is a length that the history had in the call, and needn't be its end.
 ///
 /// `BankError::Failed` comes only where the count of bank faults rose in the call; a failed `define`, `apply_once`,
-/// `foreign` or `passed` leaves the history with its own entry or without it. Where memory is wanting there is no own entry. No
-/// call changes the count of the disk's faults, or which tables others change.
+/// `foreign` or `passed` leaves the history with its own entry or without it. Where memory is wanting there is no own
+/// entry. No call changes the count of the disk's faults, or which tables others change.
 pub trait Site: Disk {
     /// The definitions of all tables, in the order in which they were made.
     fn schema(&mut self) -> Result<BackingSchema, BankError>
@@ -149,8 +149,8 @@ pub trait Site: Disk {
         ensures crash { BankGoesOn Self.state Self.possible self.old self.new }
         ensures cause { BankHasCause (Self.state self.old) (Self.state self.new) result };
 
-    /// Does one write of a session that is passed on, and records it with its ticket, in one transaction of the bank. Its
-    /// entry comes also where no row is written.
+    /// Does one write of a session that is passed on, and records it with its ticket, in one transaction of the bank.
+    /// Its entry comes also where no row is written.
     ///
     /// It answers how many rows of the named table were written, or the first broken rule, as `foreign` does. A ticket
     /// that is recorded already is a failed call that leaves the history as it was. (TimesTen Cache User's Guide,
@@ -176,10 +176,10 @@ pub trait Site: Disk {
         ensures crash { BankGoesOn Self.state Self.possible self.old self.new }
         ensures cause { BankHasCause (Self.state self.old) (Self.state self.new) result };
 
-    /// What changed since a position of the history in the tables of the trees, and of each tree the instances of which a
-    /// row changed, came or left, and those that a want names, as they are now: all at one position. Rows lead to their
-    /// instances whatever the WHERE conditions say; an instance has the rows of the view alone. So an instance that isn't
-    /// told has the rows that it had (`changes_law`).
+    /// What changed since a position of the history in the tables of the trees, and of each tree the instances of which
+    /// a row changed, came or left, and those that a want names, as they are now: all at one position. Rows lead to
+    /// their instances whatever the WHERE conditions say; an instance has the rows of the view alone. So an instance
+    /// that isn't told has the rows that it had (`changes_law`).
     ///
     /// `least` says that no call to come asks since a position before it, so the log up to it may be forgotten. A site
     /// that has no log from there on answers that the call failed; `tells_since` says so before.
@@ -198,8 +198,8 @@ pub trait Site: Disk {
         ensures cause { BankHasCause (Self.state self.old) (Self.state self.new) result };
 
     /// Whether the log goes back to a position, so that `changes` can tell what changed since. A site that keeps no log
-    /// begins one. Where the answer is no the tables are to be read whole. It isn't a call that can fail, and all that is
-    /// known of the site stays.
+    /// begins one. Where the answer is no the tables are to be read whole. It isn't a call that can fail, and all that
+    /// is known of the site stays.
     fn tells_since(&mut self, since: Position) -> bool
         ensures looks { OnlyLooks Self.state Self.possible self.old self.new };
 }

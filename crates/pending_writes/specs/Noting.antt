@@ -95,7 +95,8 @@ abbrev pub with_writes : Ticket → Option Bool → Option Writer → Option Wri
 with_writes ticket told before = option_or (option_map (λ b. record { ticket = ticket; leaves = b }) told) before
 
 abbrev pub WritesNoted : Ticket → List Write → List Noted → List Noted → Type 0
-WritesNoted ticket writes old new = (k : RowKey) → found_in new k ≡ with_writes ticket (told_by k writes) (found_in old k)
+WritesNoted ticket writes old new = (k : RowKey)
+    → found_in new k ≡ with_writes ticket (told_by k writes) (found_in old k)
 
 -- the entry at a place has no writer from this ticket on
 abbrev pub IsIdleAt : ℕ → Entries → ℕ → Type 0
@@ -103,7 +104,8 @@ IsIdleAt first es place = (e : List Value × Option Writer) × (slice_get es pla
 
 -- of each key the writer from this ticket on is the same
 abbrev pub StaysSince : ℕ → Noted → Noted → Type 0
-StaysSince first old new = (key : List Value) → since first (noted_at (Some new) key) ≡ since first (noted_at (Some old) key)
+StaysSince first old new = (key : List Value)
+    → since first (noted_at (Some new) key) ≡ since first (noted_at (Some old) key)
 
 abbrev pub AllStaySince : ℕ → List Noted → List Noted → Type 0
 AllStaySince first old new = (k : RowKey) → since first (found_in new k) ≡ since first (found_in old k)

@@ -5,8 +5,8 @@ use Rattle.outside.specs.Calls.{Certain, IsBetween, Lengthens}
 use Rattle.outside.specs.Holding.{Held}
 use Rattle.outside.specs.Sites.{SiteState}
 
--- What a crash may leave at a moment up to the present one it might have left before, at a moment of then; or it has the
--- slots of then, and the history on its way.
+-- What a crash may leave at a moment up to the present one it might have left before, at a moment of then; or it has
+-- the slots of then, and the history on its way.
 abbrev pub LeavesOnlyHistory : {D : Type 0} → (D → SiteState) → (D → ℕ → Held → Type 0) → D → D → Held → Held → Type 0
 LeavesOnlyHistory state possible before d o now =
     (k : ℕ) (p : Held) → k ≤ (state d).moment → possible d k p

@@ -62,4 +62,5 @@ suit_columns columns (place ∷ places) (family ∷ families) =
 -- the first of the columns that is of the primary key
 abbrev pub key_column_of : TableDef → List ℕ → Option (List ℕ)
 key_column_of def targets =
-    option_and_then (λ place. option_map (λ column. column.name) (slice_get def.columns place)) (find (is_place def.primary_key) targets)
+    option_and_then (λ place. option_map (λ column. column.name) (slice_get def.columns place))
+    (find (is_place def.primary_key) targets)

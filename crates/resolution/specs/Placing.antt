@@ -1,5 +1,5 @@
--- Expressions and conditions with places in place of names, and what is made of those that are written: 103 of the first
--- name, in the order of the text, that fits no column or two.
+-- Expressions and conditions with places in place of names, and what is made of those that are written: 103 of the
+-- first name, in the order of the text, that fits no column or two.
 
 use Rattle.std.specs.Prelude.{ℕ, List, [], ◌∷◌, Option, Some, None, Bool, true, false, map, Result, Ok}
 use Rattle.row_types.specs.declared.rule.Rule.{Rule}
@@ -77,9 +77,11 @@ negated_if false c = c
 -- and of a condition: a NOT inside of it is a negation
 abbrev pub placed_condition : List SeenColumn → ConditionTree → Result PlacedCondition Rule
 placed_condition scope (tree.Compared k a b) = both (Compared k) (placed_expression scope a) (placed_expression scope b)
-placed_condition scope (tree.Missing negated a) = then_make (λ x. negated_if negated (IsNull x)) (placed_expression scope a)
+placed_condition scope (tree.Missing negated a) =
+    then_make (λ x. negated_if negated (IsNull x)) (placed_expression scope a)
 placed_condition scope (tree.Between negated a low high) =
-    then_do (λ x. both (λ l h. negated_if negated (Between x l h)) (placed_expression scope low) (placed_expression scope high)) (placed_expression scope a)
+    then_do (λ x. both (λ l h. negated_if negated (Between x l h)) (placed_expression scope low)
+    (placed_expression scope high)) (placed_expression scope a)
 placed_condition scope (tree.Among negated a list) =
     both (λ x xs. negated_if negated (In x xs)) (placed_expression scope a) (placed_list scope list)
 placed_condition scope (tree.Not x) = then_make Not (placed_condition scope x)

@@ -45,7 +45,15 @@ pub record PlacedQuery : Type 0 where
 -- the evaluator's plan without its boxes
 abbrev pub plan_seen : Option (List Aggregate) → Plan → PlacedQuery
 plan_seen totals plan =
-    record { tables = plan.tables; totals = totals; listed = expressions_seen plan.listed; filter = filter_seen plan.filter; order = plan.order; descending = plan.descending }
+    record {
+      tables = plan.tables;
+      totals = totals;
+      listed = expressions_seen plan.listed;
+      filter =
+          filter_seen plan.filter;
+      order = plan.order;
+      descending = plan.descending;
+    }
 
 -- a query for rows has no totals
 abbrev pub query_seen : ResolvedQuery → PlacedQuery
@@ -99,12 +107,21 @@ placed_item scope ordered = placed_column scope ordered.column
 -- the places of the columns in ORDER BY, one after the other
 abbrev pub placed_order : List SeenColumn → List OrderItem → Result (List ℕ) Rule
 placed_order scope [] = Ok []
-placed_order scope (item ∷ items) = both (λ place places. place ∷ places) (placed_item scope item) (placed_order scope items)
+placed_order scope (item ∷ items) =
+    both (λ place places. place ∷ places) (placed_item scope item) (placed_order scope items)
 
 -- the query of these parts
 abbrev pub planned : List TableId → Query → List PlacedExpression → Option PlacedCondition → List ℕ → PlacedQuery
 planned tables q listed filter order =
-    record { tables = tables; totals = totals_of q.selected; listed = listed; filter = filter; order = order; descending = map (λ item. item.descending) q.order }
+    record {
+      tables = tables;
+      totals = totals_of q.selected;
+      listed = listed;
+      filter = filter;
+      order =
+          order;
+      descending = map (λ item. item.descending) q.order;
+    }
 
 -- the names of the list, then of WHERE, then of ORDER BY
 abbrev pub placed_query : List TableId → List SeenColumn → Query → Result PlacedQuery Rule
@@ -126,8 +143,8 @@ suit_totals (t ∷ ts) (family ∷ families) = suits_total t family && suit_tota
 suit_totals [] families = true
 suit_totals (t ∷ ts) [] = true
 
--- the types of the select list, given those of its expressions or operands; expressions and aggregates stand together in no
--- list without GROUP BY
+-- the types of the select list, given those of its expressions or operands; expressions and aggregates stand together
+-- in no list without GROUP BY
 abbrev pub suits_families : SelectList → List (Result (Option Family) Code) → Bool
 suits_families Everything families = true
 suits_families (Expressions es) families = list_all is_ok families
@@ -156,4 +173,5 @@ resolved_in tables scope q = then_do (judged (is_sound_query scope q) (unheld_in
 
 -- 102, then 103, then 104, then 105
 abbrev pub resolved_query : List TableDef → Query → Result PlacedQuery Rule
-resolved_query schema q = then_do (λ tables. resolved_in tables (scope_of schema q.tables) q) (tables_of schema q.tables)
+resolved_query schema q =
+    then_do (λ tables. resolved_in tables (scope_of schema q.tables) q) (tables_of schema q.tables)

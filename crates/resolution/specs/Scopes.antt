@@ -76,7 +76,8 @@ known_table name (Some table) = Ok table
 -- the tables in FROM, or 102 of the first that there isn't
 abbrev pub tables_of : List TableDef → List FromTable → Result (List TableId) Rule
 tables_of schema [] = Ok []
-tables_of schema (f ∷ fs) = both (λ t ts. t ∷ ts) (known_table f.table (place_of_table schema f.table)) (tables_of schema fs)
+tables_of schema (f ∷ fs) =
+    both (λ t ts. t ∷ ts) (known_table f.table (place_of_table schema f.table)) (tables_of schema fs)
 
 -- the families of the columns
 abbrev pub families : List SeenColumn → List Family

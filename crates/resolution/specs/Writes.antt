@@ -72,11 +72,12 @@ nulls columns = map (λ column. placed.Literal Null) columns
 abbrev pub unchanged : ℕ → List Column → List PlacedExpression
 unchanged place columns = map placed.Column (all_places place columns)
 
--- An INSERT whose names are found: those of the column list, then of VALUES, which has no columns. Then it is judged: 104,
--- also of another number of values, and 105. A column that isn't named is NULL.
+-- An INSERT whose names are found: those of the column list, then of VALUES, which has no columns. Then it is judged:
+-- 104, also of another number of values, and 105. A column that isn't named is NULL.
 unfoldable pub named_insert : List Column → InsertStatement → Result (Result PlacedAction Rule) Rule
 named_insert columns insert =
-    then_do (λ targets. then_make (λ values. judged (suit_columns columns targets (written_families [] insert.values)) (some_unheld insert.values) (Insert (arranged (nulls columns) targets values)))
+    then_do (λ targets. then_make (λ values. judged (suit_columns columns targets (written_families [] insert.values))
+    (some_unheld insert.values) (Insert (arranged (nulls columns) targets values)))
     (placed_list [] insert.values)) (insert_targets columns insert.columns)
 
 -- what SET sets, with what
@@ -94,10 +95,12 @@ abbrev pub assignments_seen : Assignments → PlacedAssignments
 assignments_seen a = record { targets = a.targets.items; values = expressions_seen a.values.items }
 
 -- each column with its expression, behind those before
-abbrev pub assignments_behind : List Column → List SeenColumn → PlacedAssignments → List Assignment → Result PlacedAssignments Rule
+abbrev pub assignments_behind : List Column → List SeenColumn → PlacedAssignments → List Assignment
+    → Result PlacedAssignments Rule
 assignments_behind columns scope before [] = Ok before
 assignments_behind columns scope before (a ∷ assignments) =
-    then_do (λ place. then_do (λ value. assignments_behind columns scope (with_assignment before place value) assignments)
+    then_do (λ place. then_do (λ value. assignments_behind columns scope
+    (with_assignment before place value) assignments)
     (placed_expression scope a.value)) (target_of columns before.targets a.column)
 
 -- nothing is set yet
@@ -108,12 +111,13 @@ no_assignments = record { targets = []; values = [] }
 abbrev pub values_set : List Assignment → List ExpressionTree
 values_set assignments = map (λ a. a.value) assignments
 
--- An UPDATE whose names are found: each SET column with its expression, then those of WHERE. Then it is judged: 118 of the
--- first column of the primary key, then 104 and 105. A column that isn't set stays.
+-- An UPDATE whose names are found: each SET column with its expression, then those of WHERE. Then it is judged: 118 of
+-- the first column of the primary key, then 104 and 105. A column that isn't set stays.
 unfoldable pub named_update : TableDef → List SeenColumn → UpdateStatement → Result (Result PlacedAction Rule) Rule
 named_update def scope update =
     then_do (λ set. then_make (λ filter. unless code.KeyColumnSet (key_column_of def set.targets)
-    (judged (suit_columns def.columns set.targets (written_families scope (values_set update.assignments)) && is_sound_filter scope update.filter)
+    (judged (suit_columns def.columns set.targets (written_families scope (values_set update.assignments))
+    && is_sound_filter scope update.filter)
     (some_unheld (values_set update.assignments) || unheld_in_filter update.filter)
     (Update (arranged (unchanged 0 def.columns) set.targets set.values) filter)))
     (placed_filter scope update.filter)) (assignments_behind def.columns scope no_assignments update.assignments)
@@ -121,7 +125,8 @@ named_update def scope update =
 -- A DELETE whose names are found. Then it is judged: 104 and 105.
 unfoldable pub named_delete : List SeenColumn → DeleteStatement → Result (Result PlacedAction Rule) Rule
 named_delete scope delete =
-    then_make (λ filter. judged (is_sound_filter scope delete.filter) (unheld_in_filter delete.filter) (Delete filter)) (placed_filter scope delete.filter)
+    then_make (λ filter. judged (is_sound_filter scope delete.filter) (unheld_in_filter delete.filter) (Delete filter))
+    (placed_filter scope delete.filter)
 
 -- the table that is written
 abbrev pub table_of : Write → List ℕ
@@ -149,8 +154,8 @@ abbrev pub named_at : List TableDef → Write → Option TableId → Result (Res
 named_at schema w None = Err (about code.UnknownTable (table_of w))
 named_at schema w (Some t) = named_on w t (slice_get schema t.0)
 
--- The write with its names found: 102, then 103. What is found is judged apart: 118, then 104, then 105, or the write with
--- places in place of names.
+-- The write with its names found: 102, then 103. What is found is judged apart: 118, then 104, then 105, or the write
+-- with places in place of names.
 unfoldable pub named_write : List TableDef → Write → Result (Result PlacedChange Rule) Rule
 named_write schema w = named_at schema w (place_of_table schema (table_of w))
 

@@ -1,5 +1,5 @@
--- The rule of types on what is written: comparisons are of two numbers, two texts, two times, or with NULL; arithmetic is
--- of numbers. (TimesTen SQL Reference, "Expressions" and "Comparison predicate"; without conversion, which is this
+-- The rule of types on what is written: comparisons are of two numbers, two texts, two times, or with NULL; arithmetic
+-- is of numbers. (TimesTen SQL Reference, "Expressions" and "Comparison predicate"; without conversion, which is this
 -- project's rule.)
 
 use Rattle.std.specs.Prelude.{ℕ, List, Option, Some, None, Bool, true, ◌&&◌, map, Result, Ok, slice_get}
@@ -29,7 +29,8 @@ abbrev pub is_sound : List SeenColumn → ConditionTree → Bool
 is_sound scope (Compared k a b) = agrees (written_family scope a) (written_family scope b)
 is_sound scope (Missing negated a) = is_ok (written_family scope a)
 is_sound scope (Between negated a low high) =
-    agrees (written_family scope a) (written_family scope low) && agrees (written_family scope a) (written_family scope high)
+    agrees (written_family scope a) (written_family scope low)
+    && agrees (written_family scope a) (written_family scope high)
 is_sound scope (Among negated a list) =
     is_ok (written_family scope a) && list_all (agrees (written_family scope a)) (written_families scope list)
 is_sound scope (Not x) = is_sound scope x

@@ -101,7 +101,8 @@ pub(crate) fn all_places(alloc: Global, columns: &[Column]) -> Result<Vec<usize>
 /// The row with each value at its column's place.
 #[tactic(auto, using(crate::proofs::ArrangingLaws::arranged_seen, crate::proofs::ArrangingLaws::drop_more))]
 pub(crate) fn arranged(row: Vec<Expr>, targets: &[usize], values: Vec<Expr>) -> Vec<Expr>
-    ensures { expressions_seen result.items ≡ arranged (expressions_seen row.items) targets.now (expressions_seen values.items) }
+    ensures { expressions_seen result.items ≡ arranged (expressions_seen row.items) targets.now
+        (expressions_seen values.items) }
 {
     let mut row = row;
     let mut left = targets;
@@ -114,7 +115,8 @@ pub(crate) fn arranged(row: Vec<Expr>, targets: &[usize], values: Vec<Expr>) -> 
 // Puts the value at the first of these places, where there is one, and answers the others.
 #[tactic(auto, using(crate::proofs::ArrangingLaws::seen_set))]
 fn put_next<'t>(row: &mut Vec<Expr>, targets: &'t [usize], value: Expr) -> &'t [usize]
-    ensures row { expressions_seen row.new.items ≡ put_first (expressions_seen row.old.items) targets.now (expression_seen value) }
+    ensures row { expressions_seen row.new.items
+        ≡ put_first (expressions_seen row.old.items) targets.now (expression_seen value) }
     ensures left { result.now ≡ drop 1 targets.now }
 {
     match targets.split_first() {

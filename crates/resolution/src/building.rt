@@ -18,8 +18,10 @@ pub(crate) fn binary(
     left: Expr,
     right: Expr,
 ) -> Result<Expr, AllocError>
-    ensures seen { IfOk result (λ e. expression_seen e ≡ Binary operation (expression_seen left) (expression_seen right)) }
-    ensures typed { IfOk result (λ e. (columns : List OneFamily) → family_of e columns ≡ of_both (family_of left columns) (family_of right columns)) }
+    ensures seen { IfOk result (λ e. expression_seen e
+        ≡ Binary operation (expression_seen left) (expression_seen right)) }
+    ensures typed { IfOk result (λ e. (columns : List OneFamily)
+        → family_of e columns ≡ of_both (family_of left columns) (family_of right columns)) }
 {
     let left = Box::new(alloc, left)?;
     let right = Box::new(alloc, right)?;
@@ -29,7 +31,8 @@ pub(crate) fn binary(
 /// NOT.
 pub(crate) fn negation(alloc: Global, cond: Cond) -> Result<Cond, AllocError>
     ensures seen { IfOk result (λ c. condition_seen c ≡ Not (condition_seen cond)) }
-    ensures typed { IfOk result (λ c. (columns : List OneFamily) → has_sound_types c columns ≡ has_sound_types cond columns) }
+    ensures typed { IfOk result (λ c. (columns : List OneFamily)
+        → has_sound_types c columns ≡ has_sound_types cond columns) }
 {
     let cond = Box::new(alloc, cond)?;
     Ok(Cond::Not(cond))
@@ -38,7 +41,8 @@ pub(crate) fn negation(alloc: Global, cond: Cond) -> Result<Cond, AllocError>
 /// NOT where it is wanted.
 pub(crate) fn negated_if(alloc: Global, negated: bool, cond: Cond) -> Result<Cond, AllocError>
     ensures seen { IfOk result (λ c. condition_seen c ≡ negated_if negated (condition_seen cond)) }
-    ensures typed { IfOk result (λ c. (columns : List OneFamily) → has_sound_types c columns ≡ has_sound_types cond columns) }
+    ensures typed { IfOk result (λ c. (columns : List OneFamily)
+        → has_sound_types c columns ≡ has_sound_types cond columns) }
 {
     if negated {
         negation(alloc, cond)
@@ -55,8 +59,11 @@ pub(crate) fn membership(
     expr: Expr,
     list: Vec<Expr>,
 ) -> Result<Cond, AllocError>
-    ensures seen { IfOk result (λ c. condition_seen c ≡ negated_if negated (In (expression_seen expr) (expressions_seen list.items))) }
-    ensures typed { IfOk result (λ c. (columns : List OneFamily) → has_sound_types c columns ≡ (is_ok (family_of expr columns) && list_all (agrees (family_of expr columns)) (map (λ e. family_of e columns) list.items))) }
+    ensures seen { IfOk result (λ c. condition_seen c
+        ≡ negated_if negated (In (expression_seen expr) (expressions_seen list.items))) }
+    ensures typed { IfOk result (λ c. (columns : List OneFamily)
+        → has_sound_types c columns ≡ (is_ok (family_of expr columns)
+        && list_all (agrees (family_of expr columns)) (map (λ e. family_of e columns) list.items))) }
 {
     negated_if(alloc, negated, Cond::In(expr, Seq::from_vec(list)))
 }
@@ -64,7 +71,8 @@ pub(crate) fn membership(
 /// AND.
 pub(crate) fn conjunction(alloc: Global, left: Cond, right: Cond) -> Result<Cond, AllocError>
     ensures seen { IfOk result (λ c. condition_seen c ≡ And (condition_seen left) (condition_seen right)) }
-    ensures typed { IfOk result (λ c. (columns : List OneFamily) → has_sound_types c columns ≡ (has_sound_types left columns && has_sound_types right columns)) }
+    ensures typed { IfOk result (λ c. (columns : List OneFamily)
+        → has_sound_types c columns ≡ (has_sound_types left columns && has_sound_types right columns)) }
 {
     let left = Box::new(alloc, left)?;
     let right = Box::new(alloc, right)?;
@@ -74,7 +82,8 @@ pub(crate) fn conjunction(alloc: Global, left: Cond, right: Cond) -> Result<Cond
 /// OR.
 pub(crate) fn disjunction(alloc: Global, left: Cond, right: Cond) -> Result<Cond, AllocError>
     ensures seen { IfOk result (λ c. condition_seen c ≡ Or (condition_seen left) (condition_seen right)) }
-    ensures typed { IfOk result (λ c. (columns : List OneFamily) → has_sound_types c columns ≡ (has_sound_types left columns && has_sound_types right columns)) }
+    ensures typed { IfOk result (λ c. (columns : List OneFamily)
+        → has_sound_types c columns ≡ (has_sound_types left columns && has_sound_types right columns)) }
 {
     let left = Box::new(alloc, left)?;
     let right = Box::new(alloc, right)?;

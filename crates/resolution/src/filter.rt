@@ -52,16 +52,17 @@ impl Drop for ResolvedFilter {
 /// The condition behind a WHERE, where there is one, over the columns of the table of this name.
 ///
 /// The refusal is 103 of the first name, in the order of the text, that fits no column; or memory was wanting. What is
-/// judged then, 104 and 105, is told beside the condition and refuses nothing yet, so that of several conditions all 103
-/// can come before any 104, and all 104 before any 105. (TimesTen SQL Reference, "CREATE CACHE GROUP" and "LOAD CACHE
-/// GROUP": WHERE; codes and their order are this project's rule.)
+/// judged then, 104 and 105, is told beside the condition and refuses nothing yet, so that of several conditions all
+/// 103 can come before any 104, and all 104 before any 105. (TimesTen SQL Reference, "CREATE CACHE GROUP" and "LOAD
+/// CACHE GROUP": WHERE; codes and their order are this project's rule.)
 pub fn resolve_filter(
     alloc: Global,
     table: &Name,
     columns: &[Column],
     filter: &Option<Condition>,
 ) -> Result<ResolvedFilter, Refused>
-    ensures placed { Gives (λ f. filter_seen f.cond) (placed_filter (columns_seen table.now columns.now) filter.now) result }
+    ensures placed { Gives (λ f. filter_seen f.cond)
+        (placed_filter (columns_seen table.now columns.now) filter.now) result }
     ensures sound { IfOk result (λ f. f.sound ≡ is_sound_filter (columns_seen table.now columns.now) filter.now) }
     ensures unheld { IfOk result (λ f. f.unheld ≡ unheld_in_filter filter.now) }
 {

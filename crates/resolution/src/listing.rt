@@ -21,8 +21,8 @@ use sql_query::{Aggregate as NamedAggregate, OrderItem, SelectItem, SelectList};
 use std::alloc::{AllocError, Global};
 use tier_base::{Code, Seq};
 
-/// The select list: all columns, its expressions, or the operands of its aggregates. `unheld` becomes true where no type
-/// holds some literal of it.
+/// The select list: all columns, its expressions, or the operands of its aggregates. `unheld` becomes true where no
+/// type holds some literal of it.
 ///
 /// The refusal is 103 of the first name that fits no column, or two; or memory was wanting.
 pub(crate) fn place_selected(
@@ -32,7 +32,9 @@ pub(crate) fn place_selected(
     unheld: &mut bool,
 ) -> Result<Vec<Expr>, Refused>
     ensures placed { Gives (λ es. expressions_seen es.items) (placed_selected (shown scope.now) selected.now) result }
-    ensures typed { IfOk result (λ es. suits_families selected.now (map (λ e. family_of e (families (shown scope.now))) es.items) ≡ suits_families selected.now (written_families (shown scope.now) (written_list selected.now))) }
+    ensures typed { IfOk result (λ es. suits_families selected.now
+        (map (λ e. family_of e (families (shown scope.now))) es.items)
+        ≡ suits_families selected.now (written_families (shown scope.now) (written_list selected.now))) }
     ensures held { OnOk result (unheld.new ≡ unheld.old || some_unheld (written_list selected.now)) }
 {
     match selected {
@@ -59,8 +61,10 @@ fn place_operands(
     aggregates: &[NamedAggregate],
     unheld: &mut bool,
 ) -> Result<Vec<Expr>, Refused>
-    ensures placed { Gives (λ es. expressions_seen es.items) (placed_list (shown scope.now) (map operand_of aggregates.now)) result }
-    ensures typed { IfOk result (λ es. map (λ e. family_of e (families (shown scope.now))) es.items ≡ written_families (shown scope.now) (map operand_of aggregates.now)) }
+    ensures placed { Gives (λ es. expressions_seen es.items)
+        (placed_list (shown scope.now) (map operand_of aggregates.now)) result }
+    ensures typed { IfOk result (λ es. map (λ e. family_of e (families (shown scope.now))) es.items
+        ≡ written_families (shown scope.now) (map operand_of aggregates.now)) }
     ensures held { OnOk result (unheld.new ≡ unheld.old || some_unheld (map operand_of aggregates.now)) }
 {
     let mut operands = Vec::with_capacity(alloc, aggregates.len())?;
@@ -77,8 +81,10 @@ fn place_items(
     items: &[SelectItem],
     unheld: &mut bool,
 ) -> Result<Vec<Expr>, Refused>
-    ensures placed { Gives (λ es. expressions_seen es.items) (placed_list (shown scope.now) (map tree_of_item items.now)) result }
-    ensures typed { IfOk result (λ es. map (λ e. family_of e (families (shown scope.now))) es.items ≡ written_families (shown scope.now) (map tree_of_item items.now)) }
+    ensures placed { Gives (λ es. expressions_seen es.items)
+        (placed_list (shown scope.now) (map tree_of_item items.now)) result }
+    ensures typed { IfOk result (λ es. map (λ e. family_of e (families (shown scope.now))) es.items
+        ≡ written_families (shown scope.now) (map tree_of_item items.now)) }
     ensures held { OnOk result (unheld.new ≡ unheld.old || some_unheld (map tree_of_item items.now)) }
 {
     let mut exprs = Vec::with_capacity(alloc, items.len())?;
@@ -96,7 +102,8 @@ fn place_select_item(
     unheld: &mut bool,
 ) -> Result<Expr, Refused>
     ensures placed { Gives expression_seen (placed_expression (shown scope.now) (tree_of_item item.now)) result }
-    ensures typed { IfOk result (λ e. family_of e (families (shown scope.now)) ≡ written_family (shown scope.now) (tree_of_item item.now)) }
+    ensures typed { IfOk result (λ e. family_of e (families (shown scope.now))
+        ≡ written_family (shown scope.now) (tree_of_item item.now)) }
     ensures held { OnOk result (unheld.new ≡ unheld.old || has_unheld (tree_of_item item.now)) }
 {
     match item {
@@ -112,7 +119,8 @@ fn place_operand(
     unheld: &mut bool,
 ) -> Result<Expr, Refused>
     ensures placed { Gives expression_seen (placed_expression (shown scope.now) (operand_of aggregate.now)) result }
-    ensures typed { IfOk result (λ e. family_of e (families (shown scope.now)) ≡ written_family (shown scope.now) (operand_of aggregate.now)) }
+    ensures typed { IfOk result (λ e. family_of e (families (shown scope.now))
+        ≡ written_family (shown scope.now) (operand_of aggregate.now)) }
     ensures held { OnOk result (unheld.new ≡ unheld.old || has_unheld (operand_of aggregate.now)) }
 {
     match aggregate {

@@ -28,7 +28,8 @@ pub(crate) fn place_expression(
     unheld: &mut bool,
 ) -> Result<Expr, Refused>
     ensures placed { Gives expression_seen (placed_expression (shown scope.now) expression.now) result }
-    ensures typed { IfOk result (λ e. family_of e (families (shown scope.now)) ≡ written_family (shown scope.now) expression.now) }
+    ensures typed { IfOk result (λ e. family_of e (families (shown scope.now))
+        ≡ written_family (shown scope.now) expression.now) }
     ensures held { OnOk result (unheld.new ≡ unheld.old || has_unheld expression.now) }
 {
     match &expression.node {
@@ -58,7 +59,8 @@ pub(crate) fn place_list(
     unheld: &mut bool,
 ) -> Result<Vec<Expr>, Refused>
     ensures placed { Gives (λ es. expressions_seen es.items) (placed_list (shown scope.now) list.now) result }
-    ensures typed { IfOk result (λ es. map (λ e. family_of e (families (shown scope.now))) es.items ≡ written_families (shown scope.now) list.now) }
+    ensures typed { IfOk result (λ es. map (λ e. family_of e (families (shown scope.now))) es.items
+        ≡ written_families (shown scope.now) list.now) }
     ensures held { OnOk result (unheld.new ≡ unheld.old || some_unheld list.now) }
 {
     let mut placed = Vec::with_capacity(alloc, list.len())?;
@@ -79,7 +81,8 @@ pub(crate) fn place_condition(
     unheld: &mut bool,
 ) -> Result<Cond, Refused>
     ensures placed { Gives condition_seen (placed_condition (shown scope.now) condition.now) result }
-    ensures typed { IfOk result (λ c. has_sound_types c (families (shown scope.now)) ≡ is_sound (shown scope.now) condition.now) }
+    ensures typed { IfOk result (λ c. has_sound_types c (families (shown scope.now))
+        ≡ is_sound (shown scope.now) condition.now) }
     ensures held { OnOk result (unheld.new ≡ unheld.old || unheld_within condition.now) }
 {
     match &condition.node {
@@ -130,7 +133,8 @@ pub(crate) fn place_filter(
     unheld: &mut bool,
 ) -> Result<Option<Cond>, Refused>
     ensures placed { Gives filter_seen (placed_filter (shown scope.now) filter.now) result }
-    ensures typed { IfOk result (λ c. has_sound_filter c (families (shown scope.now)) ≡ is_sound_filter (shown scope.now) filter.now) }
+    ensures typed { IfOk result (λ c. has_sound_filter c (families (shown scope.now))
+        ≡ is_sound_filter (shown scope.now) filter.now) }
     ensures held { OnOk result (unheld.new ≡ unheld.old || unheld_in_filter filter.now) }
 {
     match filter {

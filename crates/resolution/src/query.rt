@@ -25,8 +25,9 @@ use tier_base::{Seq, TableId};
 ///
 /// The refusal is the first broken rule: 102 of the first table in FROM that there isn't; 103 of the first name, in the
 /// select list, then in WHERE, then in ORDER BY, that fits no column of these tables, or two; 104 where comparison,
-/// arithmetic or SUM meets types that don't suit, or the list has expressions and aggregates; 105 where no type holds some literal. Or memory was wanting. Nothing is
-/// changed in any case. (TimesTen SQL Reference, "SELECT"; codes and their order are this project's rule.)
+/// arithmetic or SUM meets types that don't suit, or the list has expressions and aggregates; 105 where no type holds
+/// some literal. Or memory was wanting. Nothing is changed in any case. (TimesTen SQL Reference, "SELECT"; codes and
+/// their order are this project's rule.)
 pub fn resolve_query(
     alloc: Global,
     schema: &BackingSchema,
@@ -65,7 +66,9 @@ fn is_sound(
     listed: &[Expr],
     filter: &Option<Cond>,
 ) -> Result<bool, AllocError>
-    ensures { IfOk result (λ sound. sound ≡ (suits_families selected.now (map (λ e. family_of e (families (shown scope.now))) listed.now) && has_sound_filter filter.now (families (shown scope.now)))) }
+    ensures { IfOk result (λ sound. sound ≡ (suits_families selected.now
+        (map (λ e. family_of e (families (shown scope.now))) listed.now)
+        && has_sound_filter filter.now (families (shown scope.now)))) }
 {
     let families = families(alloc, scope)?;
     let families = families.as_slice();
@@ -82,7 +85,8 @@ fn planned(
     sound: bool,
     unheld: bool,
 ) -> Result<ResolvedQuery, Refused>
-    ensures { Gives query_seen (judged sound unheld (planned tables query.now (expressions_seen listed.items) (filter_seen filter) order.items)) result }
+    ensures { Gives query_seen (judged sound unheld
+        (planned tables query.now (expressions_seen listed.items) (filter_seen filter) order.items)) result }
 {
     if !sound {
         return Err(Refused::Rule(mismatch()));

@@ -30,10 +30,10 @@ use tier_base::{Code, Name, Seq, TableId};
 /// The write with places in place of names, over the tables of the schema.
 ///
 /// The refusal is the first broken rule: 102 where there is no such table; 103 of the first name, in the order of the
-/// text, that fits no column, or that the column list or SET names a second time; 118 of the first column of the primary
-/// key that SET names; 104 where types don't suit, or there are more or fewer values than columns; 105 where no type holds
-/// some literal. Or memory was wanting. Nothing is changed in any case. A column that an INSERT doesn't name is NULL.
-/// (TimesTen SQL Reference, "INSERT", "UPDATE", "DELETE"; codes and their order are this project's rule.)
+/// text, that fits no column, or that the column list or SET names a second time; 118 of the first column of the
+/// primary key that SET names; 104 where types don't suit, or there are more or fewer values than columns; 105 where no
+/// type holds some literal. Or memory was wanting. Nothing is changed in any case. A column that an INSERT doesn't name
+/// is NULL. (TimesTen SQL Reference, "INSERT", "UPDATE", "DELETE"; codes and their order are this project's rule.)
 pub fn resolve_write(
     alloc: Global,
     schema: &BackingSchema,
@@ -47,9 +47,10 @@ pub fn resolve_write(
 
 /// Several writes with places in place of names, in their order, as of one transaction.
 ///
-/// The refusal is the first broken rule, but all names come before all types: 102 and 103 of the first write, then those of
-/// the second, and so on; where all names are known, 118, 104 and 105 of the first write, then those of the second, and so
-/// on. Or memory was wanting. Nothing is changed in any case. (The codes and their order are this project's rule.)
+/// The refusal is the first broken rule, but all names come before all types: 102 and 103 of the first write, then
+/// those of the second, and so on; where all names are known, 118, 104 and 105 of the first write, then those of the
+/// second, and so on. Or memory was wanting. Nothing is changed in any case. (The codes and their order are this
+/// project's rule.)
 pub fn resolve_writes(
     alloc: Global,
     schema: &BackingSchema,
@@ -80,7 +81,8 @@ fn name_writes(
 
 // All of them, or what the first that isn't sound breaks.
 fn all_sound(alloc: Global, named: Vec<Judged<Change>>) -> Result<Judged<Seq<Change>>, AllocError>
-    ensures { IfOk result (λ sound. then_make changes_seen sound ≡ all_sound (map (then_make change_seen) named.items)) }
+    ensures { IfOk result (λ sound. then_make changes_seen sound
+        ≡ all_sound (map (then_make change_seen) named.items)) }
 {
     let mut sound = Ok(Seq::new(alloc));
     for change in named {
@@ -94,7 +96,8 @@ fn with_change(
     sound: Judged<Seq<Change>>,
     change: Judged<Change>,
 ) -> Result<Judged<Seq<Change>>, AllocError>
-    ensures { IfOk result (λ more. then_make changes_seen more ≡ sound_with (then_make changes_seen sound) (then_make change_seen change)) }
+    ensures { IfOk result (λ more. then_make changes_seen more
+        ≡ sound_with (then_make changes_seen sound) (then_make change_seen change)) }
 {
     match (sound, change) {
         (Err(rule), _) => Ok(Err(rule)),
@@ -159,14 +162,16 @@ fn name_action(alloc: Global, def: &TableDef, write: &Write) -> Result<Judged<Ac
 }
 
 fn name_update(alloc: Global, def: &TableDef, update: &Update) -> Result<Judged<Action>, Refused>
-    ensures { Gives (then_make action_seen) (named_update def.now (columns_seen update.now.table def.now.columns) update.now) result }
+    ensures { Gives (then_make action_seen) (named_update def.now
+        (columns_seen update.now.table def.now.columns) update.now) result }
 {
     let scope = columns_seen(alloc, &update.table, def.columns.as_slice())?;
     name_update_in(alloc, def, scope.as_slice(), update)
 }
 
 fn name_delete(alloc: Global, def: &TableDef, delete: &Delete) -> Result<Judged<Action>, Refused>
-    ensures { Gives (then_make action_seen) (named_delete (columns_seen delete.now.table def.now.columns) delete.now) result }
+    ensures { Gives (then_make action_seen) (named_delete (columns_seen delete.now.table def.now.columns) delete.now)
+        result }
 {
     let scope = columns_seen(alloc, &delete.table, def.columns.as_slice())?;
     name_delete_in(alloc, scope.as_slice(), delete)
@@ -194,7 +199,9 @@ fn judge_insert(
     values: Vec<Expr>,
     unheld: bool,
 ) -> Result<Judged<Action>, AllocError>
-    ensures { IfOk result (λ action. then_make action_seen action ≡ judged (suit_columns columns.now targets.items (map (λ e. family_of e []) values.items)) unheld (InsertOf (arranged (nulls columns.now) targets.items (expressions_seen values.items)))) }
+    ensures { IfOk result (λ action. then_make action_seen action
+        ≡ judged (suit_columns columns.now targets.items (map (λ e. family_of e []) values.items)) unheld
+        (InsertOf (arranged (nulls columns.now) targets.items (expressions_seen values.items)))) }
 {
     let targets = targets.as_slice();
     if !suit_columns(columns, targets, values.as_slice(), &[]) {
@@ -247,8 +254,10 @@ fn place_assignments(
     assignments: &[Assignment],
     unheld: &mut bool,
 ) -> Result<Assignments, Refused>
-    ensures placed { Gives assignments_seen (assignments_behind columns.now (shown scope.now) no_assignments assignments.now) result }
-    ensures typed { IfOk result (λ a. map (λ e. family_of e (families (shown scope.now))) a.values.items ≡ written_families (shown scope.now) (values_set assignments.now)) }
+    ensures placed { Gives assignments_seen (assignments_behind columns.now
+        (shown scope.now) no_assignments assignments.now) result }
+    ensures typed { IfOk result (λ a. map (λ e. family_of e (families (shown scope.now))) a.values.items
+        ≡ written_families (shown scope.now) (values_set assignments.now)) }
     ensures held { OnOk result (unheld.new ≡ unheld.old || some_unheld (values_set assignments.now)) }
 {
     let mut targets = Vec::with_capacity(alloc, assignments.len())?;
@@ -288,7 +297,13 @@ fn judge_update(
     filter: Option<Cond>,
     unheld: bool,
 ) -> Result<Judged<Action>, AllocError>
-    ensures { IfOk result (λ action. then_make action_seen action ≡ unless KeyColumnSet (key_column_of def.now set.targets.items) (judged (suit_columns def.now.columns set.targets.items (map (λ e. family_of e (families (shown scope.now))) set.values.items) && has_sound_filter filter (families (shown scope.now))) unheld (UpdateOf (arranged (unchanged 0 def.now.columns) set.targets.items (expressions_seen set.values.items)) (filter_seen filter)))) }
+    ensures { IfOk result (λ action. then_make action_seen action
+        ≡ unless KeyColumnSet (key_column_of def.now set.targets.items)
+        (judged (suit_columns def.now.columns set.targets.items
+        (map (λ e. family_of e (families (shown scope.now))) set.values.items)
+        && has_sound_filter filter (families (shown scope.now))) unheld
+        (UpdateOf (arranged (unchanged 0 def.now.columns) set.targets.items (expressions_seen set.values.items))
+        (filter_seen filter)))) }
 {
     let Assignments { targets, values } = set;
     let targets = targets.as_slice();
@@ -313,7 +328,9 @@ fn update_row(
     sound: bool,
     unheld: bool,
 ) -> Result<Judged<Action>, AllocError>
-    ensures { IfOk result (λ action. then_make action_seen action ≡ judged sound unheld (UpdateOf (arranged (unchanged 0 columns.now) targets.now (expressions_seen values.items)) (filter_seen filter))) }
+    ensures { IfOk result (λ action. then_make action_seen action
+        ≡ judged sound unheld (UpdateOf (arranged (unchanged 0 columns.now) targets.now (expressions_seen values.items))
+        (filter_seen filter))) }
 {
     if !sound {
         return Ok(Err(mismatch()));
@@ -346,7 +363,8 @@ fn judge_delete(
     filter: Option<Cond>,
     unheld: bool,
 ) -> Result<Judged<Action>, AllocError>
-    ensures { IfOk result (λ action. then_make action_seen action ≡ judged (has_sound_filter filter (families (shown scope.now))) unheld (DeleteOf (filter_seen filter))) }
+    ensures { IfOk result (λ action. then_make action_seen action
+        ≡ judged (has_sound_filter filter (families (shown scope.now))) unheld (DeleteOf (filter_seen filter))) }
 {
     let families = families(alloc, scope)?;
     if !has_sound_filter(&filter, families.as_slice()) {

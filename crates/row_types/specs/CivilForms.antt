@@ -15,4 +15,5 @@ IsDateAt year month day (Some date) =
 abbrev pub IsClockAt : ℕ → ℕ → ℕ → Option Time → Type 0
 IsClockAt hour minute second None = is_clock hour minute second ≡ false
 IsClockAt hour minute second (Some time) =
-    (is_clock hour minute second ≡ true) × (time.hour ≡ hour) × (time.minute ≡ minute) × (time.second ≡ second) × (time.subsec_nanosecond ≡ 0)
+    (is_clock hour minute second ≡ true) × (time.hour ≡ hour) × (time.minute ≡ minute) × (time.second ≡ second)
+    × (time.subsec_nanosecond ≡ 0)

@@ -15,7 +15,8 @@ doubled_quote b = if nat_eq b 39 then 39 ∷ 39 ∷ [] else b ∷ []
 abbrev pub quoted : List ℕ → List ℕ
 quoted bytes = 39 ∷ flat_map doubled_quote bytes ++ 39 ∷ []
 
--- NULL as `NULL`, numbers in decimal with exactly the scale's digits behind the point, texts in single quotes, times as `YYYY-MM-DD HH:MM:SS`
+-- NULL as `NULL`, numbers in decimal with exactly the scale's digits behind the point, texts in single quotes, times as
+-- `YYYY-MM-DD HH:MM:SS`
 abbrev pub printed : Value → List ℕ
 printed Null = codes "NULL"
 printed (Number n) = printed_number n

@@ -57,7 +57,8 @@ time_text seconds =
 -- the calendar has this date, of the years 0001 to 9999
 abbrev pub is_date : ℕ → ℕ → ℕ → Bool
 is_date year month day =
-    nat_le 1 year && nat_le year 9999 && nat_le 1 month && nat_le month 12 && nat_le 1 day && nat_le day (days_in_month (pos year) month)
+    nat_le 1 year && nat_le year 9999 && nat_le 1 month && nat_le month 12 && nat_le 1 day
+    && nat_le day (days_in_month (pos year) month)
 
 -- a clock shows this time of day
 abbrev pub is_clock : ℕ → ℕ → ℕ → Bool
@@ -79,11 +80,13 @@ number_in text first last = digits_value 10 (slice_range text first last)
 -- nineteen bytes, digits but for the marks between them
 abbrev pub has_marks : List ℕ → Bool
 has_marks text =
-    length text == 19 && slice_index text 4 == 45 && slice_index text 7 == 45 && slice_index text 10 == 32 && slice_index text 13 == 58 && slice_index text 16 == 58
+    length text == 19 && slice_index text 4 == 45 && slice_index text 7 == 45 && slice_index text 10 == 32
+    && slice_index text 13 == 58 && slice_index text 16 == 58
 
 abbrev pub has_numbers : List ℕ → Bool
 has_numbers text =
-    has_digits text 0 4 && has_digits text 5 7 && has_digits text 8 10 && has_digits text 11 13 && has_digits text 14 16 && has_digits text 17 19
+    has_digits text 0 4 && has_digits text 5 7 && has_digits text 8 10 && has_digits text 11 13 && has_digits text 14 16
+    && has_digits text 17 19
 
 abbrev pub has_form : List ℕ → Bool
 has_form text = has_marks text && has_numbers text
@@ -91,11 +94,13 @@ has_form text = has_marks text && has_numbers text
 -- the time that these parts name
 abbrev pub time_at : ℕ → ℕ → ℕ → ℕ → ℕ → ℕ → Option ℤ
 time_at year month day hour minute second =
-    if is_date year month day && is_clock hour minute second then Some (seconds_of year month day hour minute second) else None
+    if is_date year month day
+    && is_clock hour minute second then Some (seconds_of year month day hour minute second) else None
 
 -- the time that a text names
 abbrev pub time_of : List ℕ → Option ℤ
 time_of text =
     if has_form text
-    then time_at (number_in text 0 4) (number_in text 5 7) (number_in text 8 10) (number_in text 11 13) (number_in text 14 16) (number_in text 17 19)
+    then time_at (number_in text 0 4) (number_in text 5 7) (number_in text 8 10) (number_in text 11 13)
+    (number_in text 14 16) (number_in text 17 19)
     else None

@@ -120,8 +120,8 @@ pub fn stored(value: Value, column: &Column) -> Result<Value, Code>
 }
 
 /// The value that a column of the type would keep it as, where that one stands for the same: a number with the scale of
-/// the type's numbers, another value as it is. None where no number with that scale stands for the same, or none that 64
-/// signed bits hold.
+/// the type's numbers, another value as it is. None where no number with that scale stands for the same, or none that
+/// 64 signed bits hold.
 pub fn rescaled(alloc: Global, value: &Value, ty: Ty) -> Result<Option<Value>, AllocError>
     ensures { IfOk result (λ found. found ≡ rescaled_for ty value.now) }
 {

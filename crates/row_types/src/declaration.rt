@@ -10,8 +10,8 @@ pub enum TypeDeclaration {
     TtInteger,
     /// TT_BIGINT.
     TtBigint,
-    /// NUMBER(p) or NUMBER(p, s), with the digits of p and s. They are a type's numbers where p is from 1 to 18 and s from 0
-    /// to p; an s that isn't there is 0.
+    /// NUMBER(p) or NUMBER(p, s), with the digits of p and s. They are a type's numbers where p is from 1 to 18 and s
+    /// from 0 to p; an s that isn't there is 0.
     Number(Text, Option<Text>),
     /// VARCHAR2(n), with the digits of n. They are a type's number where it is from 1 to 4000.
     Varchar2(Text),

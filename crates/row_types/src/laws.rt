@@ -30,7 +30,8 @@ pub fn column_order_law()
 
 /// A value that a type holds, and that is equal to another one, is that one with the scale of the type's numbers.
 pub fn rescaled_law()
-    ensures { (t : ColumnType) (v w r : One) → holds t v ≡ true → value_order v w ≡ Equal → rescaled_for t w ≡ Some r → v ≡ r }
+    ensures { (t : ColumnType) (v w r : One) → holds t v ≡ true → value_order v w ≡ Equal → rescaled_for t w ≡ Some r
+        → v ≡ r }
 {}
 
 /// The order of keys is total, and only the same keys are equal in it.

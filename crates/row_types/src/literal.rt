@@ -15,11 +15,11 @@ use tier_base::Code;
 /// The greatest number of bytes of a text.
 pub const TEXT_BYTES: usize = 4000;
 
-/// The value of a literal: `NULL`; digits, or digits, a point and digits, with or without a `-` before them; a text in single quotes, where two quotes
-/// stand for one of the text and `''` alone is NULL; `TIMESTAMP 'YYYY-MM-DD HH:MM:SS'`.
+/// The value of a literal: `NULL`; digits, or digits, a point and digits, with or without a `-` before them; a text in
+/// single quotes, where two quotes stand for one of the text and `''` alone is NULL; `TIMESTAMP 'YYYY-MM-DD HH:MM:SS'`.
 ///
-/// `OutOfRange` exactly where no type holds it: a number with units past 64 signed bits, or with more than 18 digits behind
-/// its point, a text of more than 4,000 bytes, a
+/// `OutOfRange` exactly where no type holds it: a number with units past 64 signed bits, or with more than 18 digits
+/// behind its point, a text of more than 4,000 bytes, a
 /// `TIMESTAMP` of anything else than a date of the years 0001 to 9999 with a time of day, and bytes that are no
 /// literal.
 pub fn parse_literal(alloc: Global, bytes: &[u8]) -> Result<Value, Refused>

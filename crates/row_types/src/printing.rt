@@ -8,7 +8,8 @@ use crate::key::Key;
 use crate::value::Value;
 use std::alloc::{AllocError, Global};
 
-/// The printed value: `NULL`, a number in decimal with exactly its scale's digits behind the point, a text in single quotes with each quote in it twice, a time as
+/// The printed value: `NULL`, a number in decimal with exactly its scale's digits behind the point, a text in single
+/// quotes with each quote in it twice, a time as
 /// `YYYY-MM-DD HH:MM:SS`.
 pub fn print(alloc: Global, value: &Value) -> Result<Vec<u8>, AllocError>
     ensures { IfOk result (λ text. text.items ≡ printed value.now) }

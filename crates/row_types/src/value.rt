@@ -69,8 +69,8 @@ impl Value {
     }
 }
 
-/// The operator `=`: `True` where both are equal, `False` where they differ, `Unknown` where a side is NULL. Numbers are
-/// equal where they stand for the same, whatever their scales.
+/// The operator `=`: `True` where both are equal, `False` where they differ, `Unknown` where a side is NULL. Numbers
+/// are equal where they stand for the same, whatever their scales.
 pub fn compare(a: &Value, b: &Value) -> Truth
     ensures { result ≡ comparison_of a.now b.now }
 {

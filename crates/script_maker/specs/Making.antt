@@ -4,7 +4,8 @@ use Rattle.std.specs.Prelude.{◌≡◌, ℕ, ◌<◌, List, [], ◌++◌, Bool,
 use Rattle.std.specs.Io.KnownBytes.{Appends}
 use Rattle.script_maker.specs.Script.{bytes_of_lines}
 
--- The next line went, with its line end, behind what waits: what waits and what is to come are the same bytes as before.
+-- The next line went, with its line end, behind what waits: what waits and what is to come are the same bytes as
+-- before.
 pub record Moves (lines left : List (List ℕ)) (old new : List ℕ) (more : Bool) : Type 0 where
   pub same : old ++ bytes_of_lines lines ≡ new ++ bytes_of_lines left
   pub fewer : more ≡ true → length left < length lines

@@ -20,7 +20,8 @@ drawn_line kind key number =
     else if kind == 2 then codes "s1: DELETE FROM C WHERE ID = " ++ decimal key
     else if kind == 3 then codes "s1: SELECT * FROM C WHERE ID = " ++ decimal key
     else if kind == 4 then codes "s1: COMMIT"
-    else if kind == 5 then codes "backing: INSERT INTO R VALUES (" ++ decimal key ++ codes ", " ++ decimal number ++ codes ")"
+    else if kind == 5 then codes "backing: INSERT INTO R VALUES (" ++ decimal key ++ codes ", " ++ decimal number
+    ++ codes ")"
     else if kind == 6 then codes "clock: +1000"
     else codes "s1: CALL ttDrain"
 

@@ -109,7 +109,8 @@ impl Session {
     /// Whether an open operation writes a key. It takes no memory.
     pub fn writes(&self, table: TableId, key: &Key) -> bool
         ensures { (schema : List Def) → IsKept schema self.now
-            → result ≡ is_among (footprint_of schema (seen_of self.now).ops).written (record { table = table; key = key.now }) }
+            → result ≡ is_among (footprint_of schema (seen_of self.now).ops).written
+            (record { table = table; key = key.now }) }
     {
         self.written.has_key(table, key)
     }

@@ -86,7 +86,8 @@ module _ (known : Known) where
   is_decided (Then a b) = is_decided a && is_decided b && apart (ends a) (starts b)
   is_decided (Either t a b) = is_decided a && is_decided b && apart (t ∷ []) (starts b)
   is_decided (Many t a) = is_decided a && apart (ends a) (t ∷ [])
-  is_decided (Deeper t a c b) = is_decided a && is_decided c && is_decided b && apart (ends a) (starts c) && apart (t ∷ []) (starts b)
+  is_decided (Deeper t a c b) = is_decided a && is_decided c && is_decided b && apart (ends a) (starts c)
+      && apart (t ∷ []) (starts b)
   is_decided (Named m) = true
 
   -- more than the steps that it may take before a token
@@ -105,7 +106,8 @@ module _ (known : Known) where
 
   -- what is known of a rule is so, and the next token decides in it
   abbrev pub is_known : Rule → Grammar → Bool
-  is_known m g = is_decided g && (not (may_be_empty g) || known.empty m) && all_in (starts g) (known.starts m) && all_in (ends g) (known.ends m) && nat_le (weight g) (known.weight m)
+  is_known m g = is_decided g && (not (may_be_empty g) || known.empty m) && all_in (starts g) (known.starts m)
+      && all_in (ends g) (known.ends m) && nat_le (weight g) (known.weight m)
 
 -- some tokens end it, where some end each of the rules that are so marked
 abbrev pub can_end : (Rule → Bool) → Grammar → Bool

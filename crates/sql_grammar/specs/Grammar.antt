@@ -37,12 +37,21 @@ module _ (rule : Rule → Grammar) where
   pub data Reads : ℕ → Parts → List Kind → Type 0 where
     over : {n : ℕ} → Reads n Over []
     empty : {n u : ℕ} {ps : Parts} {r : List Kind} → Reads n ps r → Reads n (Part u Empty ps) r
-    token : {n u : ℕ} {t : Test} {k : Kind} {ps : Parts} {r : List Kind} → passes t k ≡ true → Reads n ps r → Reads n (Part u (Token t) ps) (k ∷ r)
-    both : {n u : ℕ} {a b : Grammar} {ps : Parts} {r : List Kind} → Reads n (Part u a (Part u b ps)) r → Reads n (Part u (Then a b) ps) r
-    this : {n u : ℕ} {t : Test} {a b : Grammar} {k : Kind} {ps : Parts} {r : List Kind} → passes t k ≡ true → Reads n (Part u a ps) r → Reads n (Part u (Either t a b) ps) (k ∷ r)
-    that : {n u : ℕ} {t : Test} {a b : Grammar} {ps : Parts} {r : List Kind} → Reads n (Part u b ps) r → Reads n (Part u (Either t a b) ps) r
-    again : {n u : ℕ} {t : Test} {a : Grammar} {k : Kind} {ps : Parts} {r : List Kind} → passes t k ≡ true → Reads n (Part u a (Part u (Many t a) ps)) r → Reads n (Part u (Many t a) ps) (k ∷ r)
-    enough : {n u : ℕ} {t : Test} {a : Grammar} {ps : Parts} {r : List Kind} → Reads n ps r → Reads n (Part u (Many t a) ps) r
-    deeper : {n u : ℕ} {t : Test} {a c b : Grammar} {k : Kind} {ps : Parts} {r : List Kind} → passes t k ≡ true → u < n → Reads n (Part (suc u) a (Part u c ps)) r → Reads n (Part u (Deeper t a c b) ps) (k ∷ r)
-    level : {n u : ℕ} {t : Test} {a c b : Grammar} {ps : Parts} {r : List Kind} → Reads n (Part u b ps) r → Reads n (Part u (Deeper t a c b) ps) r
-    named : {n u : ℕ} {m : Rule} {ps : Parts} {r : List Kind} → Reads n (Part u (rule m) ps) r → Reads n (Part u (Named m) ps) r
+    token : {n u : ℕ} {t : Test} {k : Kind} {ps : Parts} {r : List Kind} → passes t k ≡ true → Reads n ps r
+        → Reads n (Part u (Token t) ps) (k ∷ r)
+    both : {n u : ℕ} {a b : Grammar} {ps : Parts} {r : List Kind} → Reads n (Part u a (Part u b ps)) r
+        → Reads n (Part u (Then a b) ps) r
+    this : {n u : ℕ} {t : Test} {a b : Grammar} {k : Kind} {ps : Parts} {r : List Kind} → passes t k ≡ true
+        → Reads n (Part u a ps) r → Reads n (Part u (Either t a b) ps) (k ∷ r)
+    that : {n u : ℕ} {t : Test} {a b : Grammar} {ps : Parts} {r : List Kind} → Reads n (Part u b ps) r
+        → Reads n (Part u (Either t a b) ps) r
+    again : {n u : ℕ} {t : Test} {a : Grammar} {k : Kind} {ps : Parts} {r : List Kind} → passes t k ≡ true
+        → Reads n (Part u a (Part u (Many t a) ps)) r → Reads n (Part u (Many t a) ps) (k ∷ r)
+    enough : {n u : ℕ} {t : Test} {a : Grammar} {ps : Parts} {r : List Kind} → Reads n ps r
+        → Reads n (Part u (Many t a) ps) r
+    deeper : {n u : ℕ} {t : Test} {a c b : Grammar} {k : Kind} {ps : Parts} {r : List Kind} → passes t k ≡ true → u < n
+        → Reads n (Part (suc u) a (Part u c ps)) r → Reads n (Part u (Deeper t a c b) ps) (k ∷ r)
+    level : {n u : ℕ} {t : Test} {a c b : Grammar} {ps : Parts} {r : List Kind} → Reads n (Part u b ps) r
+        → Reads n (Part u (Deeper t a c b) ps) r
+    named : {n u : ℕ} {m : Rule} {ps : Parts} {r : List Kind} → Reads n (Part u (rule m) ps) r
+        → Reads n (Part u (Named m) ps) r

@@ -13,15 +13,21 @@ state = choice On Empty (Token Rest)
 
 -- [ AUTOREFRESH [MODE manner] [INTERVAL n unit] [STATE state] ]
 abbrev pub autorefresh : Grammar
-autorefresh = optional Autorefresh (optional Mode (Token Manner) ▸ optional Interval (Token Whole ▸ Token IntervalUnit) ▸ optional State state)
+autorefresh =
+    optional Autorefresh (optional Mode (Token Manner) ▸ optional Interval (Token Whole ▸ Token IntervalUnit)
+    ▸ optional State state)
 
 -- ( LRU | USE ident LIFETIME n span [CYCLE n span] ) [ON|OFF]
 abbrev pub aging : Grammar
-aging = choice Lru Empty (the Use ▸ Token Name ▸ the Lifetime ▸ Token Whole ▸ Token LifetimeUnit ▸ optional Cycle (Token Whole ▸ Token LifetimeUnit)) ▸ choice On Empty (optional Off Empty)
+aging = choice Lru Empty (the Use ▸ Token Name ▸ the Lifetime ▸ Token Whole ▸ Token LifetimeUnit
+    ▸ optional Cycle (Token Whole ▸ Token LifetimeUnit)) ▸ choice On Empty (optional Off Empty)
 
 -- table with AGING .. and WHERE cond, each at most once, in any order
 abbrev pub group_table : Grammar
-group_table = Named rules.CachedTable ▸ choice Aging (Named rules.Aging ▸ filtered) (optional Where (Named rules.Cond ▸ optional Aging (Named rules.Aging)))
+group_table =
+    Named rules.CachedTable
+    ▸ choice Aging (Named rules.Aging ▸ filtered)
+    (optional Where (Named rules.Cond ▸ optional Aging (Named rules.Aging)))
 
 -- CACHE GROUP name [autorefresh] FROM group_table { "," group_table }
 abbrev pub group : Grammar
@@ -33,7 +39,8 @@ way = choice Readonly Empty (choice Asynchronous (the Writethrough) (the Synchro
 
 -- DYNAMIC way group | USERMANAGED group | way group
 abbrev pub create_group : Grammar
-create_group = choice Dynamic (way ▸ Named rules.Group) (choice Usermanaged (Named rules.Group) (way ▸ Named rules.Group))
+create_group =
+    choice Dynamic (way ▸ Named rules.Group) (choice Usermanaged (Named rules.Group) (way ▸ Named rules.Group))
 
 -- INDEX index | create_group
 abbrev pub create : Grammar

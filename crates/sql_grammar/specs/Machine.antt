@@ -47,10 +47,14 @@ step_of rule next (Part u (Then a b) ps) = (On, Part u a (Part u b ps))
 step_of rule next (Part u (Either t a b) ps) = if is_next t next then (Took, Part u a ps) else (On, Part u b ps)
 step_of rule next (Part u (Many t a) ps) = if is_next t next then (Took, Part u a (Part u (Many t a) ps)) else (On, ps)
 step_of rule next (Part u (Deeper t a c b) ps) =
-    if is_next t next then (if nat_lt u 32 then (Took, Part (suc u) a (Part u c ps)) else (Deep, ps)) else (On, Part u b ps)
+    if is_next t next then (if nat_lt u 32 then (Took, Part (suc u) a (Part u c ps)) else (Deep, ps)) else (
+      On,
+      Part u b ps,
+    )
 step_of rule next (Part u (Named m) ps) = (On, Part u (rule m) ps)
 
 -- steps until a token is taken, or none can be
 pub data Settles (rule : Rule → Grammar) (next : Option Kind) : Parts → Move × Parts → Type 0 where
   last : {ps : Parts} {m : Move × Parts} → step_of rule next ps ≡ m → Settles rule next ps m
-  more : {ps qs : Parts} {m : Move × Parts} → step_of rule next ps ≡ (On, qs) → Settles rule next qs m → Settles rule next ps m
+  more : {ps qs : Parts} {m : Move × Parts} → step_of rule next ps ≡ (On, qs) → Settles rule next qs m
+      → Settles rule next ps m

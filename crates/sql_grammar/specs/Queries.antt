@@ -1,5 +1,5 @@
--- Names, literals, expressions, conditions and queries, as data. (TimesTen SQL Reference, "Names, namespace and parameters",
--- "Constants", "Expressions", "Search conditions" and "SELECT", in this project's profile.)
+-- Names, literals, expressions, conditions and queries, as data. (TimesTen SQL Reference, "Names, namespace and
+-- parameters", "Constants", "Expressions", "Search conditions" and "SELECT", in this project's profile.)
 use Rattle.sql_tokens.specs.declared.kind.Kind.TheVariants.{Comma, Dot, OpenParen, CloseParen, Star, Minus, Text, From, Where, And, Or, Not, Null, Is, In, Between, Order, By, Group, Timestamp, Count}
 use Rattle.sql_grammar.specs.declared.test.Test.TheVariants.{Only, Name, Sign, Compare, Digits, Direction, Fold}
 use Rattle.sql_grammar.specs.declared.rule.Rule.TheVariants as rules
@@ -20,7 +20,8 @@ colref = Token Name ▸ optional Dot (Token Name ▸ optional Dot (Token Name))
 
 -- literal = number | text | NULL | TIMESTAMP text | "-" number
 abbrev pub literal : Grammar
-literal = Either Digits Empty (choice Text Empty (choice Null Empty (choice Timestamp (the Text) (the Minus ▸ Token Digits))))
+literal = Either Digits Empty (choice Text Empty
+    (choice Null Empty (choice Timestamp (the Text) (the Minus ▸ Token Digits))))
 
 -- factor = colref | literal
 abbrev pub factor : Grammar
@@ -40,11 +41,15 @@ exprs = Named rules.Expr ▸ repeated Comma (Named rules.Expr)
 
 -- BETWEEN expr AND expr | IN "(" exprs ")"
 abbrev pub within : Grammar
-within = choice Between (Named rules.Expr ▸ the And ▸ Named rules.Expr) (the In ▸ the OpenParen ▸ exprs ▸ the CloseParen)
+within = choice Between (Named rules.Expr ▸ the And ▸ Named rules.Expr) (the In ▸ the OpenParen ▸ exprs
+    ▸ the CloseParen)
 
--- pred = "(" cond ")" | NOT pred | expr compare expr | expr IS [NOT] NULL | expr [NOT] within, where "(" and NOT are one level each
+-- pred = "(" cond ")" | NOT pred | expr compare expr | expr IS [NOT] NULL | expr [NOT] within, where "(" and NOT are
+-- one level each
 abbrev pub pred : Grammar
-pred = Deeper (Only OpenParen) (Named rules.Cond) (the CloseParen) (Deeper (Only Not) (Named rules.Pred) Empty (Named rules.Expr ▸ Either Compare (Named rules.Expr) (choice Is (optional Not Empty ▸ the Null) (choice Not within within))))
+pred = Deeper (Only OpenParen) (Named rules.Cond) (the CloseParen)
+    (Deeper (Only Not) (Named rules.Pred) Empty (Named rules.Expr
+    ▸ Either Compare (Named rules.Expr) (choice Is (optional Not Empty ▸ the Null) (choice Not within within))))
 
 -- conj = pred { AND pred }
 abbrev pub conj : Grammar
@@ -72,7 +77,8 @@ source = Named rules.Named ▸ Either Name Empty Empty
 
 -- [ ORDER BY colref [ASC|DESC] { "," colref [ASC|DESC] } ]
 abbrev pub ordered : Grammar
-ordered = optional Order (the By ▸ colref ▸ Either Direction Empty Empty ▸ repeated Comma (colref ▸ Either Direction Empty Empty))
+ordered = optional Order (the By ▸ colref ▸ Either Direction Empty Empty
+    ▸ repeated Comma (colref ▸ Either Direction Empty Empty))
 
 -- FROM source { "," source } [ WHERE cond ]
 abbrev pub sources : Grammar
@@ -92,16 +98,22 @@ grouped = sources ▸ the Group ▸ groups ▸ ordered
 
 -- the rest of a list of exprs so far: an aggregate makes it mixed
 abbrev pub exprs_rest : Grammar
-exprs_rest = choice Comma (choice Count (counted ▸ Named rules.Mixed) (Either Fold (folded ▸ Named rules.Mixed) (Named rules.Expr ▸ Named rules.Exprs))) (Named rules.After)
+exprs_rest =
+    choice Comma (choice Count (counted ▸ Named rules.Mixed)
+    (Either Fold (folded ▸ Named rules.Mixed) (Named rules.Expr ▸ Named rules.Exprs))) (Named rules.After)
 
 -- the rest of a list of aggregates so far: an expr makes it mixed
 abbrev pub aggs_rest : Grammar
-aggs_rest = choice Comma (choice Count (counted ▸ Named rules.Aggs) (Either Fold (folded ▸ Named rules.Aggs) (Named rules.Expr ▸ Named rules.Mixed))) (Named rules.After)
+aggs_rest = choice Comma (choice Count (counted ▸ Named rules.Aggs)
+    (Either Fold (folded ▸ Named rules.Aggs) (Named rules.Expr ▸ Named rules.Mixed))) (Named rules.After)
 
 -- the rest of a mixed list, which wants GROUP BY
 abbrev pub mixed_rest : Grammar
-mixed_rest = choice Comma (choice Count (counted ▸ Named rules.Mixed) (Either Fold (folded ▸ Named rules.Mixed) (Named rules.Expr ▸ Named rules.Mixed))) grouped
+mixed_rest =
+    choice Comma (choice Count (counted ▸ Named rules.Mixed)
+    (Either Fold (folded ▸ Named rules.Mixed) (Named rules.Expr ▸ Named rules.Mixed))) grouped
 
 -- list sources ..
 abbrev pub select : Grammar
-select = choice Star (Named rules.After) (choice Count (counted ▸ Named rules.Aggs) (Either Fold (folded ▸ Named rules.Aggs) (Named rules.Expr ▸ Named rules.Exprs)))
+select = choice Star (Named rules.After) (choice Count (counted ▸ Named rules.Aggs)
+    (Either Fold (folded ▸ Named rules.Aggs) (Named rules.Expr ▸ Named rules.Exprs)))

@@ -52,7 +52,13 @@ grammar_of starts.Clock = clock
 
 -- What is known of the rules.
 abbrev pub known : Known
-known = record { empty = λ m. empty_known m; starts = λ m. starts_known m; ends = λ m. ends_known m; weight = λ m. weight_known m }
+known = record {
+  empty = λ m. empty_known m;
+  starts = λ m. starts_known m;
+  ends = λ m. ends_known m;
+  weight =
+      λ m. weight_known m;
+}
   where
     empty_known : Rule → Bool
     empty_known rules.Named = false
@@ -85,13 +91,16 @@ known = record { empty = λ m. empty_known m; starts = λ m. starts_known m; end
     starts_known rules.Idents = Name ∷ []
     starts_known rules.Literal = Digits ∷ Only Text ∷ Only Null ∷ Only Timestamp ∷ Only Minus ∷ []
     starts_known rules.Expr = Name ∷ Digits ∷ Only Text ∷ Only Null ∷ Only Timestamp ∷ Only Minus ∷ []
-    starts_known rules.Pred = Only OpenParen ∷ Only Not ∷ Name ∷ Digits ∷ Only Text ∷ Only Null ∷ Only Timestamp ∷ Only Minus ∷ []
-    starts_known rules.Cond = Only OpenParen ∷ Only Not ∷ Name ∷ Digits ∷ Only Text ∷ Only Null ∷ Only Timestamp ∷ Only Minus ∷ []
+    starts_known rules.Pred =
+        Only OpenParen ∷ Only Not ∷ Name ∷ Digits ∷ Only Text ∷ Only Null ∷ Only Timestamp ∷ Only Minus ∷ []
+    starts_known rules.Cond =
+        Only OpenParen ∷ Only Not ∷ Name ∷ Digits ∷ Only Text ∷ Only Null ∷ Only Timestamp ∷ Only Minus ∷ []
     starts_known rules.After = Only From ∷ []
     starts_known rules.Exprs = Only Comma ∷ Only From ∷ []
     starts_known rules.Aggs = Only Comma ∷ Only From ∷ []
     starts_known rules.Mixed = Only Comma ∷ Only From ∷ []
-    starts_known rules.Select = Only Star ∷ Only Count ∷ Fold ∷ Name ∷ Digits ∷ Only Text ∷ Only Null ∷ Only Timestamp ∷ Only Minus ∷ []
+    starts_known rules.Select =
+        Only Star ∷ Only Count ∷ Fold ∷ Name ∷ Digits ∷ Only Text ∷ Only Null ∷ Only Timestamp ∷ Only Minus ∷ []
     starts_known rules.Insert = Only Into ∷ []
     starts_known rules.Update = Name ∷ []
     starts_known rules.Delete = Only From ∷ []
@@ -101,10 +110,13 @@ known = record { empty = λ m. empty_known m; starts = λ m. starts_known m; end
     starts_known rules.CachedTable = Name ∷ []
     starts_known rules.Aging = Only Lru ∷ Only Use ∷ []
     starts_known rules.Group = Only Cache ∷ []
-    starts_known rules.Create = Only Index ∷ Only Dynamic ∷ Only Usermanaged ∷ Only Readonly ∷ Only Asynchronous ∷ Only Synchronous ∷ []
+    starts_known rules.Create =
+        Only Index ∷ Only Dynamic ∷ Only Usermanaged ∷ Only Readonly ∷ Only Asynchronous ∷ Only Synchronous ∷ []
     starts_known rules.Chosen = Only Where ∷ Only With ∷ []
     starts_known rules.Called = Name ∷ []
-    starts_known rules.Statement = Only Select ∷ Only Insert ∷ Only Update ∷ Only Delete ∷ Only Create ∷ Only Load ∷ Only Refresh ∷ Only Unload ∷ Only Flush ∷ Only Drop ∷ Only Alter ∷ Only Call ∷ Only Commit ∷ Only Rollback ∷ []
+    starts_known rules.Statement =
+        Only Select ∷ Only Insert ∷ Only Update ∷ Only Delete ∷ Only Create ∷ Only Load ∷ Only Refresh ∷ Only Unload
+        ∷ Only Flush ∷ Only Drop ∷ Only Alter ∷ Only Call ∷ Only Commit ∷ Only Rollback ∷ []
 
     ends_known : Rule → List Test
     ends_known rules.Named = Only Dot ∷ []
@@ -113,24 +125,41 @@ known = record { empty = λ m. empty_known m; starts = λ m. starts_known m; end
     ends_known rules.Expr = Sign ∷ Only Star ∷ Only Dot ∷ []
     ends_known rules.Pred = Sign ∷ Only Star ∷ Only Dot ∷ []
     ends_known rules.Cond = Only Or ∷ Only And ∷ Sign ∷ Only Star ∷ Only Dot ∷ []
-    ends_known rules.After = Only Comma ∷ Direction ∷ Only Dot ∷ Only Order ∷ Only Group ∷ Only Or ∷ Only And ∷ Sign ∷ Only Star ∷ Only Where ∷ Name ∷ []
-    ends_known rules.Exprs = Only Comma ∷ Direction ∷ Only Dot ∷ Only Order ∷ Only Group ∷ Only Where ∷ Name ∷ Only Or ∷ Only And ∷ Sign ∷ Only Star ∷ []
-    ends_known rules.Aggs = Only Comma ∷ Direction ∷ Only Dot ∷ Only Order ∷ Only Group ∷ Only Where ∷ Name ∷ Only Or ∷ Only And ∷ Sign ∷ Only Star ∷ []
+    ends_known rules.After =
+        Only Comma ∷ Direction ∷ Only Dot ∷ Only Order ∷ Only Group ∷ Only Or ∷ Only And ∷ Sign ∷ Only Star ∷ Only Where
+        ∷ Name ∷ []
+    ends_known rules.Exprs =
+        Only Comma ∷ Direction ∷ Only Dot ∷ Only Order ∷ Only Group ∷ Only Where ∷ Name ∷ Only Or ∷ Only And ∷ Sign
+        ∷ Only Star ∷ []
+    ends_known rules.Aggs =
+        Only Comma ∷ Direction ∷ Only Dot ∷ Only Order ∷ Only Group ∷ Only Where ∷ Name ∷ Only Or ∷ Only And ∷ Sign
+        ∷ Only Star ∷ []
     ends_known rules.Mixed = Only Comma ∷ Direction ∷ Only Dot ∷ Only Order ∷ []
-    ends_known rules.Select = Only Comma ∷ Direction ∷ Only Dot ∷ Only Order ∷ Only Group ∷ Only Or ∷ Only And ∷ Sign ∷ Only Star ∷ Only Where ∷ Name ∷ []
+    ends_known rules.Select =
+        Only Comma ∷ Direction ∷ Only Dot ∷ Only Order ∷ Only Group ∷ Only Or ∷ Only And ∷ Sign ∷ Only Star ∷ Only Where
+        ∷ Name ∷ []
     ends_known rules.Insert = []
     ends_known rules.Update = Only Or ∷ Only And ∷ Sign ∷ Only Star ∷ Only Dot ∷ Only Where ∷ Only Comma ∷ []
     ends_known rules.Delete = Only Or ∷ Only And ∷ Sign ∷ Only Star ∷ Only Dot ∷ Only Where ∷ []
-    ends_known rules.Writes = Only Delete ∷ Only Update ∷ Only Insert ∷ Only Semicolon ∷ Only Where ∷ Only Comma ∷ Only Or ∷ Only And ∷ Sign ∷ Only Star ∷ Only Dot ∷ []
+    ends_known rules.Writes =
+        Only Delete ∷ Only Update ∷ Only Insert ∷ Only Semicolon ∷ Only Where ∷ Only Comma ∷ Only Or ∷ Only And ∷ Sign
+        ∷ Only Star ∷ Only Dot ∷ []
     ends_known rules.Columns = []
     ends_known rules.CachedColumns = []
     ends_known rules.CachedTable = []
     ends_known rules.Aging = Only Off ∷ Only On ∷ Only Cycle ∷ []
-    ends_known rules.Group = Only Comma ∷ Only Or ∷ Only And ∷ Sign ∷ Only Star ∷ Only Dot ∷ Only Where ∷ Only Off ∷ Only On ∷ Only Cycle ∷ Only Aging ∷ []
-    ends_known rules.Create = Only Comma ∷ Only Or ∷ Only And ∷ Sign ∷ Only Star ∷ Only Dot ∷ Only Where ∷ Only Off ∷ Only On ∷ Only Cycle ∷ Only Aging ∷ []
+    ends_known rules.Group =
+        Only Comma ∷ Only Or ∷ Only And ∷ Sign ∷ Only Star ∷ Only Dot ∷ Only Where ∷ Only Off ∷ Only On ∷ Only Cycle
+        ∷ Only Aging ∷ []
+    ends_known rules.Create =
+        Only Comma ∷ Only Or ∷ Only And ∷ Sign ∷ Only Star ∷ Only Dot ∷ Only Where ∷ Only Off ∷ Only On ∷ Only Cycle
+        ∷ Only Aging ∷ []
     ends_known rules.Chosen = Only With ∷ Only Or ∷ Only And ∷ Sign ∷ Only Star ∷ Only Dot ∷ Only Where ∷ []
     ends_known rules.Called = Only OpenParen ∷ Only Dot ∷ []
-    ends_known rules.Statement = Only Comma ∷ Direction ∷ Only Dot ∷ Only Order ∷ Only Group ∷ Only Or ∷ Only And ∷ Sign ∷ Only Star ∷ Only Where ∷ Name ∷ Only Off ∷ Only On ∷ Only Cycle ∷ Only Aging ∷ Only Parallel ∷ Only Commit ∷ Only With ∷ Only OpenParen ∷ []
+    ends_known rules.Statement =
+        Only Comma ∷ Direction ∷ Only Dot ∷ Only Order ∷ Only Group ∷ Only Or ∷ Only And ∷ Sign ∷ Only Star ∷ Only Where
+        ∷ Name ∷ Only Off ∷ Only On ∷ Only Cycle ∷ Only Aging ∷ Only Parallel ∷ Only Commit ∷ Only With
+        ∷ Only OpenParen ∷ []
 
     weight_known : Rule → ℕ
     weight_known rules.Named = 2

@@ -1,5 +1,5 @@
--- Statements and lines, as data. (TimesTen SQL Reference, "SQL statements" and "CALL", in this project's profile; the lines of
--- sessions, of the console and of the clock are this project's rule.)
+-- Statements and lines, as data. (TimesTen SQL Reference, "SQL statements" and "CALL", in this project's profile; the
+-- lines of sessions, of the console and of the clock are this project's rule.)
 use Rattle.sql_tokens.specs.declared.kind.Kind.TheVariants.{Colon, Semicolon, Comma, OpenParen, CloseParen, Plus, Select, Insert, Update, Delete, Create, Alter, Drop, Table, Call, Commit, Rollback, Load, Refresh, Unload, Flush, Open, Close, Passthrough, Durable}
 use Rattle.sql_grammar.specs.declared.test.Test.TheVariants.{Whole, Level, Flag}
 use Rattle.sql_grammar.specs.declared.rule.Rule.TheVariants as rules
@@ -11,11 +11,19 @@ use Rattle.sql_grammar.specs.Loading.{unloaded, loaded, altered, dropped}
 
 -- name [ "(" [ literal { "," literal } ] ")" ]
 abbrev pub called : Grammar
-called = Named rules.Named ▸ optional OpenParen (choice CloseParen Empty (Named rules.Literal ▸ repeated Comma (Named rules.Literal) ▸ the CloseParen))
+called = Named rules.Named
+    ▸ optional OpenParen (choice CloseParen Empty (Named rules.Literal ▸ repeated Comma (Named rules.Literal)
+    ▸ the CloseParen))
 
 -- a statement of a session
 abbrev pub statement : Grammar
-statement = choice Select (Named rules.Select) (choice Insert (Named rules.Insert) (choice Update (Named rules.Update) (choice Delete (Named rules.Delete) (choice Create (Named rules.Create) (choice Load loaded (choice Refresh loaded (choice Unload unloaded (choice Flush unloaded (choice Drop dropped (choice Alter altered (choice Call (Named rules.Called) (choice Commit Empty (the Rollback)))))))))))))
+statement = choice Select (Named rules.Select)
+    (choice Insert (Named rules.Insert) (choice Update (Named rules.Update)
+    (choice Delete (Named rules.Delete) (choice Create (Named rules.Create)
+    (choice Load loaded (choice Refresh loaded
+    (choice Unload unloaded (choice Flush unloaded
+    (choice Drop dropped (choice Alter altered
+    (choice Call (Named rules.Called) (choice Commit Empty (the Rollback)))))))))))))
 
 -- a statement without a label: statement [ ";" ]
 abbrev pub alone : Grammar

@@ -1,5 +1,5 @@
--- Tables and indexes, as data. (TimesTen SQL Reference, "CREATE TABLE", "CREATE CACHE GROUP" and "CREATE INDEX", in this
--- project's profile.)
+-- Tables and indexes, as data. (TimesTen SQL Reference, "CREATE TABLE", "CREATE CACHE GROUP" and "CREATE INDEX", in
+-- this project's profile.)
 use Rattle.sql_tokens.specs.declared.kind.Kind.TheVariants.{Comma, OpenParen, CloseParen, Zero, Not, Null, Delete, Primary, Foreign, Key, References, On, Cascade, Timestamp, Readonly, Propagate, TtInteger, TtBigint, Varchar2, Byte, Number}
 use Rattle.sql_grammar.specs.declared.test.Test.TheVariants.{Name, Column, Whole}
 use Rattle.sql_grammar.specs.declared.rule.Rule.TheVariants as rules
@@ -8,7 +8,11 @@ use Rattle.sql_grammar.specs.Notation.{◌▸◌, the, optional, choice}
 
 -- TT_INTEGER | TT_BIGINT | VARCHAR2 "(" n [BYTE] ")" | NUMBER "(" n [ "," n ] ")" | TIMESTAMP [ "(" 0 ")" ]
 abbrev pub column_type : Grammar
-column_type = choice TtInteger Empty (choice TtBigint Empty (choice Varchar2 (the OpenParen ▸ Token Whole ▸ optional Byte Empty ▸ the CloseParen) (choice Number (the OpenParen ▸ Token Whole ▸ optional Comma (Token Whole) ▸ the CloseParen) (the Timestamp ▸ optional OpenParen (the Zero ▸ the CloseParen)))))
+column_type =
+    choice TtInteger Empty (choice TtBigint Empty
+    (choice Varchar2 (the OpenParen ▸ Token Whole ▸ optional Byte Empty ▸ the CloseParen)
+    (choice Number (the OpenParen ▸ Token Whole ▸ optional Comma (Token Whole) ▸ the CloseParen) (the Timestamp
+    ▸ optional OpenParen (the Zero ▸ the CloseParen)))))
 
 -- type [NOT NULL] [PRIMARY KEY]
 abbrev pub column_rest : Grammar
@@ -20,7 +24,8 @@ key_rest = the Key ▸ the OpenParen ▸ Named rules.Idents ▸ the CloseParen
 
 -- KEY "(" idents ")" REFERENCES name "(" idents ")" [ON DELETE CASCADE]
 abbrev pub foreign_rest : Grammar
-foreign_rest = the Key ▸ the OpenParen ▸ Named rules.Idents ▸ the CloseParen ▸ the References ▸ Named rules.Named ▸ the OpenParen ▸ Named rules.Idents ▸ the CloseParen ▸ optional On (the Delete ▸ the Cascade)
+foreign_rest = the Key ▸ the OpenParen ▸ Named rules.Idents ▸ the CloseParen ▸ the References ▸ Named rules.Named
+    ▸ the OpenParen ▸ Named rules.Idents ▸ the CloseParen ▸ optional On (the Delete ▸ the Cascade)
 
 -- type .. columns
 abbrev pub more_columns : Grammar
@@ -32,7 +37,8 @@ after_key = choice CloseParen Empty (the Comma ▸ the Foreign ▸ foreign_rest 
 
 -- the rest of a table behind a column
 abbrev pub columns : Grammar
-columns = choice CloseParen Empty (the Comma ▸ choice Primary (key_rest ▸ after_key) (choice Foreign (foreign_rest ▸ the CloseParen) (Token Name ▸ more_columns)))
+columns = choice CloseParen Empty (the Comma ▸ choice Primary (key_rest ▸ after_key)
+    (choice Foreign (foreign_rest ▸ the CloseParen) (Token Name ▸ more_columns)))
 
 -- name "(" ident type .. columns
 abbrev pub table : Grammar
@@ -40,7 +46,8 @@ table = Named rules.Named ▸ the OpenParen ▸ Token Name ▸ column_rest ▸ N
 
 -- ( READONLY | PROPAGATE | NOT PROPAGATE ) ")"
 abbrev pub attribute : Grammar
-attribute = choice Readonly (the CloseParen) (choice Propagate (the CloseParen) (the Not ▸ the Propagate ▸ the CloseParen))
+attribute = choice Readonly (the CloseParen) (choice Propagate (the CloseParen) (the Not ▸ the Propagate
+    ▸ the CloseParen))
 
 -- ")" | "," attribute
 abbrev pub cached_after_foreign : Grammar
@@ -56,7 +63,12 @@ more_cached_columns = column_rest ▸ Named rules.CachedColumns
 
 -- the rest of a cache table behind a column; behind a comma READONLY and PROPAGATE may be an attribute or a column
 abbrev pub cached_columns : Grammar
-cached_columns = choice CloseParen Empty (the Comma ▸ choice Primary (key_rest ▸ cached_after_key) (choice Foreign (foreign_rest ▸ cached_after_foreign) (choice Not (the Propagate ▸ the CloseParen) (choice Readonly (choice CloseParen Empty more_cached_columns) (choice Propagate (choice CloseParen Empty more_cached_columns) (Token Column ▸ more_cached_columns))))))
+cached_columns =
+    choice CloseParen Empty (the Comma ▸ choice Primary (key_rest ▸ cached_after_key)
+    (choice Foreign (foreign_rest ▸ cached_after_foreign)
+    (choice Not (the Propagate ▸ the CloseParen)
+    (choice Readonly (choice CloseParen Empty more_cached_columns)
+    (choice Propagate (choice CloseParen Empty more_cached_columns) (Token Column ▸ more_cached_columns))))))
 
 -- name "(" ident type .. columns of a cache table
 abbrev pub cached_table : Grammar

@@ -19,7 +19,8 @@ IsSpelt g n ks = Reads rule n (Part 0 g Over) ks
 abbrev pub Begins : Grammar → ℕ → List Kind → Type 0
 Begins g n ks = (r : List Kind) × IsSpelt g n (ks ++ r)
 
--- something spelt on at most n levels has the first i tokens, and behind them the next token, or its end where there is none
+-- something spelt on at most n levels has the first i tokens, and behind them the next token, or its end where there is
+-- none
 abbrev pub GoesOn : Grammar → ℕ → ℕ → List Kind → Type 0
 GoesOn g n i ks = (r : List Kind) × (ahead r ≡ slice_get ks i) × IsSpelt g n (take i ks ++ r)
 
@@ -29,4 +30,5 @@ Judged g ks v.Fits = IsSpelt g 32 ks
 -- the first token with which nothing spelt goes on
 Judged g ks (v.At i) = (i ≤ length ks) × Begins g 32 (take i ks) × ((n : ℕ) → GoesOn g n i ks → ⊥)
 -- the first token with which something goes on, but nothing of 32 levels
-Judged g ks v.Deep = (i : ℕ) × (i ≤ length ks) × Begins g 32 (take i ks) × (GoesOn g 32 i ks → ⊥) × ((n : ℕ) × GoesOn g n i ks)
+Judged g ks v.Deep = (i : ℕ) × (i ≤ length ks) × Begins g 32 (take i ks) × (GoesOn g 32 i ks → ⊥)
+    × ((n : ℕ) × GoesOn g n i ks)

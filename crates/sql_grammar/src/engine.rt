@@ -65,7 +65,8 @@ fn put(stack: &mut Vec<Entry>, level: u8, part: &'static Syntax<'static>) -> Res
 
 fn next_part(stack: &mut Vec<Entry>) -> Option<Entry>
     ensures none { IfNone result ((parts_of stack.old.items ≡ Over) × (parts_of stack.new.items ≡ Over)) }
-    ensures some { IfSome result (λ e. parts_of stack.old.items ≡ Part e.level (view e.part.now) (parts_of stack.new.items)) }
+    ensures some { IfSome result (λ e. parts_of stack.old.items
+        ≡ Part e.level (view e.part.now) (parts_of stack.new.items)) }
 {
     stack.pop()
 }

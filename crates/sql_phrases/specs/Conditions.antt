@@ -1,5 +1,5 @@
--- What the tokens at the front say: conditions. (TimesTen SQL Reference, "Search conditions": NOT binds before AND, and AND before
--- OR; AND and OR are taken from left to right.)
+-- What the tokens at the front say: conditions. (TimesTen SQL Reference, "Search conditions": NOT binds before AND, and
+-- AND before OR; AND and OR are taken from left to right.)
 use Rattle.std.specs.Prelude.{ℕ, zero, suc, Bool, true, false, List, length, drop, Option, Some, None, if◌then◌else◌}
 use Rattle.expressions.specs.declared.condition.Comparator.{Comparator}
 use Rattle.expressions.specs.declared.condition.Comparator.TheVariants as comparators
@@ -42,7 +42,8 @@ among negated e x = (Among negated e x.0, drop 1 x.1)
 -- BETWEEN expr AND expr | IN "(" exprs ")" behind an expression, and NOT where it is negated
 unfoldable pub within : Bool → ExpressionTree → List Lexeme → ConditionTree × List Lexeme
 within negated e ls =
-    if begins k.Between ls then between_low negated e (expression_of (drop 1 ls)) else among negated e (expressions_of (drop 2 ls))
+    if begins k.Between ls then between_low negated e (expression_of (drop 1 ls)) else among negated e
+    (expressions_of (drop 2 ls))
 
 -- what stands behind an expression
 unfoldable pub tested : ExpressionTree × List Lexeme → ConditionTree × List Lexeme

@@ -1,5 +1,5 @@
--- What the tokens at the front say: expressions. (TimesTen SQL Reference, "Expressions"; `*` binds before `+` and `-`, and each
--- of them from left to right.)
+-- What the tokens at the front say: expressions. (TimesTen SQL Reference, "Expressions"; `*` binds before `+` and `-`,
+-- and each of them from left to right.)
 use Rattle.std.specs.Prelude.{ℕ, Bool, ◌||◌, List, length, if◌then◌else◌}
 use Rattle.expressions.specs.declared.expression.Arithmetic.{Arithmetic}
 use Rattle.expressions.specs.declared.expression.Arithmetic.TheVariants as arithmetic

@@ -24,7 +24,8 @@ use Rattle.sql_phrases.specs.Conditions.{filter_of}
 
 -- the aggregate of SUM, MIN or MAX
 abbrev pub folded_by : Kind → ExpressionTree → Aggregate
-folded_by w e = if is_kind w k.Sum then aggregates.Sum e else if is_kind w k.Min then aggregates.Least e else aggregates.Greatest e
+folded_by w e =
+    if is_kind w k.Sum then aggregates.Sum e else if is_kind w k.Min then aggregates.Least e else aggregates.Greatest e
 
 abbrev pub folded : Kind → ExpressionTree × List Lexeme → SelectItem × List Lexeme
 folded w x = (items.Aggregate (folded_by w x.0), drop 1 x.1)
@@ -34,7 +35,11 @@ counted x = (items.Aggregate (aggregates.Count x.0), drop 1 x.1)
 
 -- "(" ( "*" | expr ) ")" behind COUNT
 abbrev pub count_of : List Lexeme → SelectItem × List Lexeme
-count_of ls = if begins k.Star (drop 1 ls) then (items.Aggregate aggregates.Rows, drop 3 ls) else counted (expression_of (drop 1 ls))
+count_of ls =
+    if begins k.Star (drop 1 ls) then (
+      items.Aggregate aggregates.Rows,
+      drop 3 ls,
+    ) else counted (expression_of (drop 1 ls))
 
 abbrev pub as_item : ExpressionTree × List Lexeme → SelectItem × List Lexeme
 as_item x = (items.Expression x.0, x.1)
@@ -109,10 +114,13 @@ order_items_of ls = chained at_comma with_last order_item_of (length ls) (as_lis
 unfoldable pub order_of : List Lexeme → List OrderItem × List Lexeme
 order_of ls = if begins k.Order ls then order_items_of (drop 2 ls) else ([], ls)
 
-abbrev pub query_ordered : SelectList → List FromTable → Option ConditionTree → List (List ℕ) → List OrderItem × List Lexeme → Query × List Lexeme
-query_ordered selected tables filter groups x = (record { selected = selected; tables = tables; filter = filter; groups = groups; order = x.0 }, x.1)
+abbrev pub query_ordered : SelectList → List FromTable → Option ConditionTree → List (List ℕ)
+    → List OrderItem × List Lexeme → Query × List Lexeme
+query_ordered selected tables filter groups x =
+    (record { selected = selected; tables = tables; filter = filter; groups = groups; order = x.0 }, x.1)
 
-abbrev pub query_grouped : SelectList → List FromTable → Option ConditionTree → List (List ℕ) × List Lexeme → Query × List Lexeme
+abbrev pub query_grouped : SelectList → List FromTable → Option ConditionTree → List (List ℕ) × List Lexeme
+    → Query × List Lexeme
 query_grouped selected tables filter x = query_ordered selected tables filter x.0 (order_of x.1)
 
 abbrev pub query_filtered : SelectList → List FromTable → Option ConditionTree × List Lexeme → Query × List Lexeme

@@ -37,7 +37,10 @@ identifier_of ls = (name_from (first_text ls), drop 1 ls)
 -- ident [ "." ident ]
 abbrev pub name_of : List Lexeme → List ℕ × List Lexeme
 name_of ls =
-    if begins Dot (drop 1 ls) then (name_from (first_text ls ++ 46 ∷ first_text (drop 2 ls)), drop 3 ls) else (name_from (first_text ls), drop 1 ls)
+    if begins Dot (drop 1 ls) then (
+      name_from (first_text ls ++ 46 ∷ first_text (drop 2 ls)),
+      drop 3 ls,
+    ) else (name_from (first_text ls), drop 1 ls)
 
 -- ident [ "." ident ] behind a dot, where there is one
 abbrev pub past_column : List ℕ × List Lexeme → List ℕ × List Lexeme
@@ -91,10 +94,13 @@ literal_of ls =
 abbrev pub at_comma : List Lexeme → Bool
 at_comma ls = begins Comma ls
 
--- From left to right, while it goes on with a token and a part behind it: f puts one part more in, and is told the token.
-abbrev pub chained : {A B : Type 0} → (List Lexeme → Bool) → (Kind → A → B → A) → (List Lexeme → B × List Lexeme) → ℕ → A × List Lexeme → A × List Lexeme
+-- From left to right, while it goes on with a token and a part behind it: f puts one part more in, and is told the
+-- token.
+abbrev pub chained : {A B : Type 0} → (List Lexeme → Bool) → (Kind → A → B → A) → (List Lexeme → B × List Lexeme) → ℕ
+    → A × List Lexeme → A × List Lexeme
 chained g f p zero x = x
-chained g f p (suc n) x = if g x.1 then chained g f p n (f (first_kind x.1) x.0 (p (drop 1 x.1)).0, (p (drop 1 x.1)).1) else x
+chained g f p (suc n) x =
+    if g x.1 then chained g f p n (f (first_kind x.1) x.0 (p (drop 1 x.1)).0, (p (drop 1 x.1)).1) else x
 
 -- a list with one more at its end
 abbrev pub with_last : {A : Type 0} → Kind → List A → A → List A

@@ -30,7 +30,10 @@ text_type ls = (types.Varchar2 (first_text (drop 1 ls)), drop 1 (past_word k.Byt
 -- "(" n [ "," n ] ")" behind NUMBER
 abbrev pub number_type : List Lexeme → TypeDeclaration × List Lexeme
 number_type ls =
-    if begins k.Comma (drop 2 ls) then (types.Number (first_text (drop 1 ls)) (Some (first_text (drop 3 ls))), drop 5 ls)
+    if begins k.Comma (drop 2 ls) then (
+      types.Number (first_text (drop 1 ls)) (Some (first_text (drop 3 ls))),
+      drop 5 ls,
+    )
     else (types.Number (first_text (drop 1 ls)) None, drop 3 ls)
 
 -- [ "(" 0 ")" ] behind TIMESTAMP
@@ -48,8 +51,10 @@ type_of ls =
 
 -- [ NOT NULL ] [ PRIMARY KEY ] behind a column's name and type
 abbrev pub column_typed : List ℕ → TypeDeclaration × List Lexeme → ColumnDeclaration × List Lexeme
-column_typed name x =
-    (record { name = name; ty = x.0; not_null = begins k.Not x.1; primary_key = begins k.Primary (past_two k.Not x.1) }, past_two k.Primary (past_two k.Not x.1))
+column_typed name x = (
+  record { name = name; ty = x.0; not_null = begins k.Not x.1; primary_key = begins k.Primary (past_two k.Not x.1) },
+  past_two k.Primary (past_two k.Not x.1),
+)
 
 abbrev pub column_named : List ℕ × List Lexeme → ColumnDeclaration × List Lexeme
 column_named x = column_typed x.0 (type_of x.1)
@@ -61,8 +66,20 @@ column_of ls = column_named (identifier_of ls)
 -- [ ON DELETE CASCADE ] behind the columns of the parent
 abbrev pub foreign_referred : List (List ℕ) → List ℕ → List (List ℕ) × List Lexeme → ForeignKeyDeclaration × List Lexeme
 foreign_referred columns parent x =
-    if begins k.On (drop 1 x.1) then (record { columns = columns; parent = parent; parent_columns = x.0; cascade = begins k.On (drop 1 x.1) }, drop 4 x.1)
-    else (record { columns = columns; parent = parent; parent_columns = x.0; cascade = begins k.On (drop 1 x.1) }, drop 1 x.1)
+    if begins k.On (drop 1 x.1) then (
+      record {
+        columns = columns;
+        parent = parent;
+        parent_columns = x.0;
+        cascade =
+            begins k.On (drop 1 x.1);
+      },
+      drop 4 x.1,
+    )
+    else (
+      record { columns = columns; parent = parent; parent_columns = x.0; cascade = begins k.On (drop 1 x.1) },
+      drop 1 x.1,
+    )
 
 abbrev pub foreign_named : List (List ℕ) → List ℕ × List Lexeme → ForeignKeyDeclaration × List Lexeme
 foreign_named columns x = foreign_referred columns x.0 (identifiers_of (drop 1 x.1))
@@ -106,8 +123,14 @@ with_element w t (elements.Attribute attribute) = record t { attribute = Some at
 
 -- a table with its first column
 abbrev pub table_with : List ℕ → ColumnDeclaration × List Lexeme → CacheTable × List Lexeme
-table_with name x =
-    (record { table = record { name = name; columns = x.0 ∷ []; primary_key = None; foreign_key = None }; attribute = None }, x.1)
+table_with name x = (
+  record {
+    table = record { name = name; columns = x.0 ∷ []; primary_key = None; foreign_key = None };
+    attribute =
+        None;
+  },
+  x.1,
+)
 
 -- the elements behind the first column
 abbrev pub elements_of : List ℕ → ColumnDeclaration × List Lexeme → CacheTable × List Lexeme

@@ -1,4 +1,5 @@
--- What the tokens at the front say: statements that write rows. (TimesTen SQL Reference, "INSERT", "UPDATE" and "DELETE".)
+-- What the tokens at the front say: statements that write rows. (TimesTen SQL Reference, "INSERT", "UPDATE" and
+-- "DELETE".)
 use Rattle.std.specs.Prelude.{ℕ, List, [], ◌∷◌, length, drop, Option, Some, None, if◌then◌else◌}
 use Rattle.sql_tokens.specs.declared.kind.Kind.TheVariants as k
 use Rattle.sql_tokens.specs.Lexing.{Lexeme}

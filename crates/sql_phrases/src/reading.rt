@@ -105,7 +105,8 @@ pub fn number_of(digits: &[u8]) -> u64
 
 /// Takes a byte of a text, behind a quote or not; whether the next one is.
 fn take_byte(text: &mut Vec<u8>, behind: bool, byte: u8) -> Result<bool, AllocError>
-    ensures { IfOk result (λ next. (rest : List ℕ) → text.new.items ++ halved next rest ≡ text.old.items ++ halved behind (byte ∷ rest)) }
+    ensures { IfOk result (λ next. (rest : List ℕ)
+        → text.new.items ++ halved next rest ≡ text.old.items ++ halved behind (byte ∷ rest)) }
 {
     if behind {
         text.push(b'\'')?;

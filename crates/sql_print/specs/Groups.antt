@@ -34,7 +34,8 @@ interval_words interval = codes "INTERVAL" ∷ decimal interval ∷ codes "MILLI
 abbrev pub refresh_words : Option autorefreshes.Autorefresh → List Word
 refresh_words None = []
 refresh_words (Some refresh) =
-    codes "AUTOREFRESH" ∷ codes "MODE" ∷ mode_word refresh.mode ∷ interval_words refresh.interval ++ codes "STATE" ∷ state_word refresh.state ∷ []
+    codes "AUTOREFRESH" ∷ codes "MODE" ∷ mode_word refresh.mode ∷ interval_words refresh.interval
+    ++ codes "STATE" ∷ state_word refresh.state ∷ []
 
 abbrev pub kind_words : GroupKind → List Word
 kind_words ReadOnly = codes "READONLY" ∷ []
@@ -49,7 +50,8 @@ span_words seconds = decimal seconds ∷ codes "SECONDS" ∷ []
 -- LRU | USE column LIFETIME n SECONDS CYCLE n SECONDS
 abbrev pub rule_words : AgingRule → List Word
 rule_words rules.LastUse = codes "LRU" ∷ []
-rule_words (rules.Time aging) = codes "USE" ∷ aging.column ∷ codes "LIFETIME" ∷ span_words aging.lifetime ++ codes "CYCLE" ∷ span_words aging.cycle
+rule_words (rules.Time aging) =
+    codes "USE" ∷ aging.column ∷ codes "LIFETIME" ∷ span_words aging.lifetime ++ codes "CYCLE" ∷ span_words aging.cycle
 
 abbrev pub switch_word : Bool → Word
 switch_word on = if on then codes "ON" else codes "OFF"
@@ -65,7 +67,9 @@ group_table_words t = table_words t.table t.attribute ++ aging_words t.aging ++ 
 
 -- [ DYNAMIC ] kind CACHE GROUP name [ AUTOREFRESH .. ]
 abbrev pub head_words : groups.CreateGroup → List Word
-head_words group = where_so group.dynamic (codes "DYNAMIC" ∷ []) ++ kind_words group.kind ++ codes "CACHE" ∷ codes "GROUP" ∷ name_words group.name ++ refresh_words group.autorefresh
+head_words group =
+    where_so group.dynamic (codes "DYNAMIC" ∷ []) ++ kind_words group.kind
+    ++ codes "CACHE" ∷ codes "GROUP" ∷ name_words group.name ++ refresh_words group.autorefresh
 
 -- [ DYNAMIC ] kind CACHE GROUP name [ AUTOREFRESH .. ] FROM tables
 abbrev pub group_words : groups.CreateGroup → List Word

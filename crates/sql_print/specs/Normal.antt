@@ -16,7 +16,14 @@ normal_aging false None = None
 
 -- a table of a group, which is a dynamic group's root or not
 abbrev pub normal_group_table : Bool → GroupTable → GroupTable
-normal_group_table dynamic t = record { table = normal_table t.table; attribute = t.attribute; filter = t.filter; aging = normal_aging dynamic t.aging }
+normal_group_table dynamic t =
+    record {
+      table = normal_table t.table;
+      attribute = t.attribute;
+      filter = t.filter;
+      aging =
+          normal_aging dynamic t.aging;
+    }
 
 -- the first table is the root
 abbrev pub normal_group_tables : Bool → List GroupTable → List GroupTable

@@ -60,7 +60,9 @@ order_words (item ∷ items) = codes "ORDER" ∷ codes "BY" ∷ listed order_ite
 
 -- list FROM tables [ WHERE .. ] [ GROUP BY .. ] [ ORDER BY .. ]
 abbrev pub query_words : Query → List Word
-query_words q = selected_words q.selected ++ codes "FROM" ∷ listed source_words q.tables ++ filter_words q.filter ++ grouping_words q.groups ++ order_words q.order
+query_words q =
+    selected_words q.selected ++ codes "FROM" ∷ listed source_words q.tables ++ filter_words q.filter
+    ++ grouping_words q.groups ++ order_words q.order
 
 -- [ ( columns ) ]
 abbrev pub insert_column_words : Option (List (List ℕ)) → List Word
@@ -73,8 +75,10 @@ assignment_words x = x.column ∷ codes "=" ∷ expression_words x.value
 
 -- what stands behind INSERT INTO, UPDATE or DELETE FROM
 abbrev pub write_rest_words : Write → List Word
-write_rest_words (writes.Insert x) = name_words x.table ++ insert_column_words x.columns ++ codes "VALUES" ∷ enclosed (listed expression_words x.values)
-write_rest_words (writes.Update x) = name_words x.table ++ codes "SET" ∷ listed assignment_words x.assignments ++ filter_words x.filter
+write_rest_words (writes.Insert x) =
+    name_words x.table ++ insert_column_words x.columns ++ codes "VALUES" ∷ enclosed (listed expression_words x.values)
+write_rest_words (writes.Update x) =
+    name_words x.table ++ codes "SET" ∷ listed assignment_words x.assignments ++ filter_words x.filter
 write_rest_words (writes.Delete x) = name_words x.table ++ filter_words x.filter
 
 -- INSERT .. | UPDATE .. | DELETE ..

@@ -34,7 +34,8 @@ parallel_words (Some threads) = codes "PARALLEL" ∷ decimal threads ∷ []
 
 -- name which [ COMMIT EVERY n ROWS ] [ PARALLEL n ]
 abbrev pub load_words : loads.Load → List Word
-load_words load = name_words load.group ++ which_words load.which ++ commit_words load.commit_every ++ parallel_words load.parallel
+load_words load =
+    name_words load.group ++ which_words load.which ++ commit_words load.commit_every ++ parallel_words load.parallel
 
 -- name which
 abbrev pub of_group_words : OfGroup → List Word
@@ -59,7 +60,8 @@ rest_words (v.Load load) = load_words load
 rest_words (v.Refresh load) = load_words load
 rest_words (v.Unload x) = of_group_words x
 rest_words (v.Flush x) = of_group_words x
-rest_words (v.Alter alter) = name_words alter.group ++ codes "SET" ∷ codes "AUTOREFRESH" ∷ codes "STATE" ∷ state_word alter.state ∷ []
+rest_words (v.Alter alter) =
+    name_words alter.group ++ codes "SET" ∷ codes "AUTOREFRESH" ∷ codes "STATE" ∷ state_word alter.state ∷ []
 rest_words (v.DropGroup name) = name_words name
 rest_words (v.DropIndex name) = name ∷ []
 rest_words (v.Call call) = name_words call.procedure ++ argument_words call.arguments

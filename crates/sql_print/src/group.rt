@@ -81,7 +81,8 @@ fn put_span(out: &mut Vec<u8>, seconds: u64) -> Result<(), AllocError>
 
 /// Puts the lifetime and the cycle.
 fn put_spans(out: &mut Vec<u8>, lifetime: u64, cycle: u64) -> Result<(), AllocError>
-    ensures { OnOk result (out.new.items ≡ out.old.items ++ spaced (codes "LIFETIME" ∷ span_words lifetime ++ codes "CYCLE" ∷ span_words cycle)) }
+    ensures { OnOk result (out.new.items ≡ out.old.items
+        ++ spaced (codes "LIFETIME" ∷ span_words lifetime ++ codes "CYCLE" ∷ span_words cycle)) }
 {
     put(out, b"LIFETIME")?;
     put_span(out, lifetime)?;
@@ -141,7 +142,8 @@ fn put_group_table(
     dynamic: bool,
     table: &GroupTable,
 ) -> Result<(), AllocError>
-    ensures { OnOk result (out.new.items ≡ out.old.items ++ spaced (group_table_words (normal_group_table dynamic table.now))) }
+    ensures { OnOk result (out.new.items ≡ out.old.items
+        ++ spaced (group_table_words (normal_group_table dynamic table.now))) }
 {
     put_table(alloc, out, &table.table, table.attribute)?;
     put_aging(out, dynamic, &table.aging)?;
@@ -150,7 +152,8 @@ fn put_group_table(
 
 /// Puts a comma and a table for each.
 fn put_children(alloc: Global, out: &mut Vec<u8>, tables: &[GroupTable]) -> Result<(), AllocError>
-    ensures { OnOk result (out.new.items ≡ out.old.items ++ spaced (more (λ t. group_table_words (normal_group_table false t)) tables.now)) }
+    ensures { OnOk result (out.new.items ≡ out.old.items
+        ++ spaced (more (λ t. group_table_words (normal_group_table false t)) tables.now)) }
 {
     for table in tables {
         put(out, b",")?;
@@ -167,7 +170,9 @@ fn put_family(
     root: &GroupTable,
     children: &[GroupTable],
 ) -> Result<(), AllocError>
-    ensures { OnOk result (out.new.items ≡ out.old.items ++ spaced (group_table_words (normal_group_table dynamic root.now) ++ more (λ t. group_table_words (normal_group_table false t)) children.now)) }
+    ensures { OnOk result (out.new.items ≡ out.old.items
+        ++ spaced (group_table_words (normal_group_table dynamic root.now)
+        ++ more (λ t. group_table_words (normal_group_table false t)) children.now)) }
 {
     put_group_table(alloc, out, dynamic, root)?;
     put_children(alloc, out, children)
@@ -181,7 +186,8 @@ fn put_group_tables(
     dynamic: bool,
     tables: &[GroupTable],
 ) -> Result<(), AllocError>
-    ensures { OnOk result (out.new.items ≡ out.old.items ++ spaced (listed group_table_words (normal_group_tables dynamic tables.now))) }
+    ensures { OnOk result (out.new.items ≡ out.old.items
+        ++ spaced (listed group_table_words (normal_group_tables dynamic tables.now))) }
 {
     match tables.split_first() {
         None => Ok(()),

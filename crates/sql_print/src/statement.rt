@@ -82,7 +82,9 @@ fn put_index(out: &mut Vec<u8>, index: &CreateIndex) -> Result<(), AllocError>
 }
 
 fn put_alter(out: &mut Vec<u8>, alter: &Alter) -> Result<(), AllocError>
-    ensures { OnOk result (out.new.items ≡ out.old.items ++ spaced (name_words alter.now.group ++ codes "SET" ∷ codes "AUTOREFRESH" ∷ codes "STATE" ∷ state_word alter.now.state ∷ [])) }
+    ensures { OnOk result (out.new.items ≡ out.old.items
+        ++ spaced (name_words alter.now.group ++ codes "SET" ∷ codes "AUTOREFRESH" ∷ codes "STATE"
+        ∷ state_word alter.now.state ∷ [])) }
 {
     put_name(out, &alter.group)?;
     put(out, b"SET AUTOREFRESH STATE")?;
@@ -99,7 +101,8 @@ fn put_arguments(out: &mut Vec<u8>, arguments: &[Literal]) -> Result<(), AllocEr
 }
 
 fn put_call(out: &mut Vec<u8>, call: &Call) -> Result<(), AllocError>
-    ensures { OnOk result (out.new.items ≡ out.old.items ++ spaced (name_words call.now.procedure ++ argument_words call.now.arguments)) }
+    ensures { OnOk result (out.new.items ≡ out.old.items
+        ++ spaced (name_words call.now.procedure ++ argument_words call.now.arguments)) }
 {
     put_name(out, &call.procedure)?;
     put_arguments(out, call.arguments.as_slice())

@@ -1,5 +1,5 @@
--- How values of the trees are told apart: a tree is coded by the list of its nodes, children first, from which it is read
--- back. No contract speaks of it.
+-- How values of the trees are told apart: a tree is coded by the list of its nodes, children first, from which it is
+-- read back. No contract speaks of it.
 
 use Rattle.std.specs.Prelude.{ℕ, zero, suc, ◌≡◌, refl, Bool, false, List, [], ◌∷◌, ◌++◌, ◌⊎◌}
 use Rattle.std.specs.Coded.{Coded, code_by, coded×, coded⊎, coded_bool, coded_list, coded_ℕ}
@@ -35,7 +35,8 @@ literal_from-parts (Time text) = refl
 
 abbrev pub literal_code : Coded Literal
 literal_code =
-    code_by LiteralParts (coded⊎ coded_ℕ (coded⊎ (coded× coded_bool (coded_list coded_ℕ)) (coded⊎ (coded_list coded_ℕ) (coded_list coded_ℕ))))
+    code_by LiteralParts (coded⊎ coded_ℕ (coded⊎ (coded× coded_bool (coded_list coded_ℕ))
+    (coded⊎ (coded_list coded_ℕ) (coded_list coded_ℕ))))
     literal_parts literal_from literal_from-parts
 
 abbrev arithmetic_number : Arithmetic → ℕ
@@ -108,11 +109,13 @@ abbrev read_expression : List ExpressionMark → List ExpressionTree → List Ex
 read_expression [] stack = stack
 read_expression (m ∷ ms) stack = read_expression ms (read_expression_mark m stack)
 
-read_expression-append : (ms ns : List ExpressionMark) (stack : List ExpressionTree) → read_expression (ms ++ ns) stack ≡ read_expression ns (read_expression ms stack)
+read_expression-append : (ms ns : List ExpressionMark) (stack : List ExpressionTree)
+    → read_expression (ms ++ ns) stack ≡ read_expression ns (read_expression ms stack)
 read_expression-append [] ns stack = refl
 read_expression-append (m ∷ ms) ns stack = read_expression-append ms ns (read_expression_mark m stack)
 
-pub read_expression-marks : (e : ExpressionTree) (stack : List ExpressionTree) → read_expression (expression_marks e) stack ≡ e ∷ stack
+pub read_expression-marks : (e : ExpressionTree) (stack : List ExpressionTree)
+    → read_expression (expression_marks e) stack ≡ e ∷ stack
 read_expression-marks (Constant literal) stack = refl
 read_expression-marks (Column name) stack = refl
 read_expression-marks (Binary o a b) stack =
@@ -124,11 +127,14 @@ read_expression-marks (Binary o a b) stack =
 abbrev pub expression_code : Coded ExpressionTree
 expression_code =
     code_by (List ExpressionMark) (coded_list (coded⊎ literal_code (coded⊎ (coded_list coded_ℕ) arithmetic_code)))
-    expression_marks (λ ms. last_or (Constant Null) (read_expression ms [])) (λ e. ap (last_or (Constant Null)) (read_expression-marks e []))
+    expression_marks (λ ms. last_or (Constant Null) (read_expression ms []))
+    (λ e. ap (last_or (Constant Null)) (read_expression-marks e []))
 
 -- the nodes of a condition: those without conditions inside, then NOT, AND and OR
 abbrev ConditionLeaf : Type 0
-ConditionLeaf = (Comparator × (ExpressionTree × ExpressionTree)) ⊎ ((Bool × ExpressionTree) ⊎ ((Bool × (ExpressionTree × (ExpressionTree × ExpressionTree))) ⊎ (Bool × (ExpressionTree × List ExpressionTree))))
+ConditionLeaf = (Comparator × (ExpressionTree × ExpressionTree))
+    ⊎ ((Bool × ExpressionTree) ⊎ ((Bool × (ExpressionTree × (ExpressionTree × ExpressionTree)))
+    ⊎ (Bool × (ExpressionTree × List ExpressionTree))))
 
 abbrev ConditionMark : Type 0
 ConditionMark = ConditionLeaf ⊎ ℕ
@@ -163,29 +169,36 @@ abbrev read_condition : List ConditionMark → List ConditionTree → List Condi
 read_condition [] stack = stack
 read_condition (m ∷ ms) stack = read_condition ms (read_condition_mark m stack)
 
-read_condition-append : (ms ns : List ConditionMark) (stack : List ConditionTree) → read_condition (ms ++ ns) stack ≡ read_condition ns (read_condition ms stack)
+read_condition-append : (ms ns : List ConditionMark) (stack : List ConditionTree)
+    → read_condition (ms ++ ns) stack ≡ read_condition ns (read_condition ms stack)
 read_condition-append [] ns stack = refl
 read_condition-append (m ∷ ms) ns stack = read_condition-append ms ns (read_condition_mark m stack)
 
 -- two conditions and a mark behind them
-read_condition-two : (xs ys : List ConditionMark) (m : ConditionMark) (x y : ConditionTree) (stack : List ConditionTree) → read_condition xs stack ≡ x ∷ stack → read_condition ys (x ∷ stack) ≡ y ∷ x ∷ stack → read_condition (xs ++ (ys ++ m ∷ [])) stack ≡ read_condition_mark m (y ∷ x ∷ stack)
+read_condition-two : (xs ys : List ConditionMark) (m : ConditionMark) (x y : ConditionTree) (stack : List ConditionTree)
+    → read_condition xs stack ≡ x ∷ stack → read_condition ys (x ∷ stack) ≡ y ∷ x ∷ stack
+    → read_condition (xs ++ (ys ++ m ∷ [])) stack ≡ read_condition_mark m (y ∷ x ∷ stack)
 read_condition-two xs ys m x y stack p q =
     read_condition-append xs (ys ++ m ∷ []) stack
     ∙ ap (λ s. read_condition (ys ++ m ∷ []) s) p
     ∙ read_condition-append ys (m ∷ []) (x ∷ stack)
     ∙ ap (λ s. read_condition (m ∷ []) s) q
 
-pub read_condition-marks : (c : ConditionTree) (stack : List ConditionTree) → read_condition (condition_marks c) stack ≡ c ∷ stack
+pub read_condition-marks : (c : ConditionTree) (stack : List ConditionTree)
+    → read_condition (condition_marks c) stack ≡ c ∷ stack
 read_condition-marks (Compared k a b) stack = refl
 read_condition-marks (Missing negated a) stack = refl
 read_condition-marks (Between negated a low high) stack = refl
 read_condition-marks (Among negated a list) stack = refl
 read_condition-marks (Not x) stack =
-    read_condition-append (condition_marks x) (inr 0 ∷ []) stack ∙ ap (λ s. read_condition (inr 0 ∷ []) s) (read_condition-marks x stack)
+    read_condition-append (condition_marks x) (inr 0 ∷ []) stack ∙ ap (λ s. read_condition (inr 0 ∷ []) s)
+    (read_condition-marks x stack)
 read_condition-marks (All x y) stack =
-    read_condition-two (condition_marks x) (condition_marks y) (inr 1) x y stack (read_condition-marks x stack) (read_condition-marks y (x ∷ stack))
+    read_condition-two (condition_marks x) (condition_marks y) (inr 1) x y stack (read_condition-marks x stack)
+    (read_condition-marks y (x ∷ stack))
 read_condition-marks (Any x y) stack =
-    read_condition-two (condition_marks x) (condition_marks y) (inr 2) x y stack (read_condition-marks x stack) (read_condition-marks y (x ∷ stack))
+    read_condition-two (condition_marks x) (condition_marks y) (inr 2) x y stack (read_condition-marks x stack)
+    (read_condition-marks y (x ∷ stack))
 
 abbrev leaf_code : Coded ConditionLeaf
 leaf_code =

@@ -51,10 +51,10 @@ impl Drop for Literal {
 impl Literal {
     /// The value of the literal. It is NULL of the text without bytes.
     ///
-    /// None exactly where no type holds it: a number with units past 64 signed bits or with more than 18 digits behind its
-    /// point, a text of more than 4,000 bytes, and a TIMESTAMP of anything else than `YYYY-MM-DD HH:MM:SS` with a date of the years 0001 to 9999 and a time of day.
-    /// The error is want of memory. (TimesTen SQL Reference, "Constants", "Datetime literals"; the ranges are this
-    /// project's.)
+    /// None exactly where no type holds it: a number with units past 64 signed bits or with more than 18 digits behind
+    /// its point, a text of more than 4,000 bytes, and a TIMESTAMP of anything else than `YYYY-MM-DD HH:MM:SS` with a
+    /// date of the years 0001 to 9999 and a time of day. The error is want of memory. (TimesTen SQL Reference,
+    /// "Constants", "Datetime literals"; the ranges are this project's.)
     pub fn value(&self, alloc: Global) -> Result<Option<Value>, AllocError>
         ensures { IfOk result (λ value. value ≡ value_of self.now) }
     {

@@ -49,11 +49,18 @@ with_mode x = if begins k.Mode x.1 then (record (x.0) { mode = mode_of (first_ki
 -- [ INTERVAL integer unit ]
 abbrev pub with_interval : autorefreshes.Autorefresh × List Lexeme → autorefreshes.Autorefresh × List Lexeme
 with_interval x =
-    if begins k.Interval x.1 then (record (x.0) { interval = interval_of (first_text (drop 1 x.1)) (first_kind (drop 2 x.1)) }, drop 3 x.1) else x
+    if begins k.Interval x.1 then (
+      record (x.0) {
+        interval =
+            interval_of (first_text (drop 1 x.1)) (first_kind (drop 2 x.1));
+      },
+      drop 3 x.1,
+    ) else x
 
 -- [ STATE state ]
 abbrev pub with_state : autorefreshes.Autorefresh × List Lexeme → autorefreshes.Autorefresh × List Lexeme
-with_state x = if begins k.State x.1 then (record (x.0) { state = state_of (first_kind (drop 1 x.1)) }, drop 2 x.1) else x
+with_state x =
+    if begins k.State x.1 then (record (x.0) { state = state_of (first_kind (drop 1 x.1)) }, drop 2 x.1) else x
 
 abbrev pub written : autorefreshes.Autorefresh × List Lexeme → Option autorefreshes.Autorefresh × List Lexeme
 written x = (Some x.0, x.1)
@@ -68,7 +75,8 @@ unwritten UserManaged = None
 -- [ AUTOREFRESH .. ]
 abbrev pub refresh_of : GroupKind → List Lexeme → Option autorefreshes.Autorefresh × List Lexeme
 refresh_of kind ls =
-    if begins k.Autorefresh ls then written (with_state (with_interval (with_mode (default_refresh, drop 1 ls)))) else (unwritten kind, ls)
+    if begins k.Autorefresh ls then written (with_state (with_interval (with_mode (default_refresh, drop 1 ls))))
+    else (unwritten kind, ls)
 
 -- READONLY | USERMANAGED | ASYNCHRONOUS WRITETHROUGH | SYNCHRONOUS WRITETHROUGH
 abbrev pub kind_of : List Lexeme → GroupKind × List Lexeme
@@ -80,7 +88,9 @@ kind_of ls =
 
 -- the seconds of a unit
 abbrev pub seconds_of : Kind → ℕ
-seconds_of unit = if is_kind unit k.Second then 1 else if is_kind unit k.Minute then 60 else if is_kind unit k.Hour then 3600 else 86400
+seconds_of unit =
+    if is_kind unit k.Second then 1 else if is_kind unit k.Minute then 60 else if is_kind unit k.Hour then 3600
+    else 86400
 
 -- the seconds of so many units
 abbrev pub span_of : List ℕ → Kind → ℕ
@@ -134,15 +144,18 @@ attribute_of UserManaged None = Some attributes.NotPropagate
 attribute_of UserManaged (Some attribute) = Some attribute
 
 abbrev pub group_table : GroupKind → CacheTable → Option ConditionTree → Option AgingClause → GroupTable
-group_table kind t filter aging = record { table = t.table; attribute = attribute_of kind t.attribute; filter = filter; aging = aging }
+group_table kind t filter aging =
+    record { table = t.table; attribute = attribute_of kind t.attribute; filter = filter; aging = aging }
 
-abbrev pub aged_filtered : GroupKind → CacheTable → Option AgingClause → Option ConditionTree × List Lexeme → GroupTable × List Lexeme
+abbrev pub aged_filtered : GroupKind → CacheTable → Option AgingClause → Option ConditionTree × List Lexeme
+    → GroupTable × List Lexeme
 aged_filtered kind t aging x = (group_table kind t x.0 aging, x.1)
 
 abbrev pub aged : GroupKind → CacheTable → Option AgingClause × List Lexeme → GroupTable × List Lexeme
 aged kind t x = aged_filtered kind t x.0 (filter_of x.1)
 
-abbrev pub filtered_aged : GroupKind → CacheTable → Option ConditionTree → Option AgingClause × List Lexeme → GroupTable × List Lexeme
+abbrev pub filtered_aged : GroupKind → CacheTable → Option ConditionTree → Option AgingClause × List Lexeme
+    → GroupTable × List Lexeme
 filtered_aged kind t filter x = (group_table kind t filter x.0, x.1)
 
 abbrev pub filtered : GroupKind → CacheTable → Option ConditionTree × List Lexeme → GroupTable × List Lexeme
@@ -158,12 +171,16 @@ group_table_of kind ls = claused kind (table_of ls)
 
 -- group table { "," group table }
 abbrev pub group_tables_of : GroupKind → List Lexeme → List GroupTable × List Lexeme
-group_tables_of kind ls = chained at_comma with_last (group_table_of kind) (length ls) (as_list (group_table_of kind ls))
+group_tables_of kind ls =
+    chained at_comma with_last (group_table_of kind) (length ls) (as_list (group_table_of kind ls))
 
-abbrev pub grouped : Bool → List ℕ → GroupKind → Option autorefreshes.Autorefresh → List GroupTable × List Lexeme → groups.CreateGroup × List Lexeme
-grouped dynamic name kind refresh x = (record { name = name; kind = kind; dynamic = dynamic; autorefresh = refresh; tables = x.0 }, x.1)
+abbrev pub grouped : Bool → List ℕ → GroupKind → Option autorefreshes.Autorefresh → List GroupTable × List Lexeme
+    → groups.CreateGroup × List Lexeme
+grouped dynamic name kind refresh x =
+    (record { name = name; kind = kind; dynamic = dynamic; autorefresh = refresh; tables = x.0 }, x.1)
 
-abbrev pub group_refreshed : Bool → List ℕ → GroupKind → Option autorefreshes.Autorefresh × List Lexeme → groups.CreateGroup × List Lexeme
+abbrev pub group_refreshed : Bool → List ℕ → GroupKind → Option autorefreshes.Autorefresh × List Lexeme
+    → groups.CreateGroup × List Lexeme
 group_refreshed dynamic name kind x = grouped dynamic name kind x.0 (group_tables_of kind (drop 1 x.1))
 
 abbrev pub group_named : Bool → GroupKind → List ℕ × List Lexeme → groups.CreateGroup × List Lexeme

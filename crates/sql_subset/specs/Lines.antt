@@ -64,7 +64,8 @@ pub data Saying : Type 0 where
 abbrev pub Spoken : Start → List ℕ → ℕ → List Lexeme → Saying → Type 0
 Spoken s head end ls Silent = ⊥
 Spoken s head end ls (Says l) = IsSpelt (grammar_of s) 32 (kinds_in ls) × (l ≡ line_of s head ls)
-Spoken s head end ls (WrongAt p) = (i : ℕ) × (p ≡ place_at ls i end) × Judged (grammar_of s) (kinds_in ls) (verdicts.At i)
+Spoken s head end ls (WrongAt p) = (i : ℕ) × (p ≡ place_at ls i end)
+    × Judged (grammar_of s) (kinds_in ls) (verdicts.At i)
 Spoken s head end ls TooDeep = Judged (grammar_of s) (kinds_in ls) verdicts.Deep
 
 -- The answer to tokens: what they say, or want of memory.
@@ -107,14 +108,16 @@ is_spoilt bytes = nat_lt (good_length bytes) (length bytes)
 
 -- The bytes spell this statement.
 abbrev pub Spells : List ℕ → Stmt → Type 0
-Spells bytes s = (is_spoilt bytes ≡ false) × IsSpelt (grammar_of starts.Statement) 32 (kinds_in (lexed 0 bytes)) × (s ≡ statement_of (lexed 0 bytes))
+Spells bytes s = (is_spoilt bytes ≡ false) × IsSpelt (grammar_of starts.Statement) 32 (kinds_in (lexed 0 bytes))
+    × (s ≡ statement_of (lexed 0 bytes))
 
 -- Why the bytes spell no statement, or want of memory.
 abbrev pub Unspelt : Bool → List ℕ → ParseError → Type 0
 Unspelt spoilt bytes e.Memory = Unit {0}
 Unspelt true bytes (e.At p) = p ≡ good_length bytes
 Unspelt true bytes e.Depth = ⊥
-Unspelt false bytes (e.At p) = (i : ℕ) × (p ≡ place_at (lexed 0 bytes) i (length bytes)) × Judged (grammar_of starts.Statement) (kinds_in (lexed 0 bytes)) (verdicts.At i)
+Unspelt false bytes (e.At p) = (i : ℕ) × (p ≡ place_at (lexed 0 bytes) i (length bytes))
+    × Judged (grammar_of starts.Statement) (kinds_in (lexed 0 bytes)) (verdicts.At i)
 Unspelt false bytes e.Depth = Judged (grammar_of starts.Statement) (kinds_in (lexed 0 bytes)) verdicts.Deep
 
 -- The answer to the bytes of a statement.

@@ -1,5 +1,5 @@
--- What the tokens say: statements and requests. (TimesTen SQL Reference, "SQL statements"; the lines of sessions, of the console
--- and of the clock are this project's rule.)
+-- What the tokens say: statements and requests. (TimesTen SQL Reference, "SQL statements"; the lines of sessions, of
+-- the console and of the clock are this project's rule.)
 use Rattle.std.specs.Prelude.{ℕ, Bool, ◌&&◌, ◌||◌, List, [], length, drop, Option, Some, None, if◌then◌else◌}
 use Rattle.sql_tokens.specs.declared.kind.Kind.{Kind}
 use Rattle.sql_tokens.specs.declared.kind.Kind.TheVariants as k
@@ -37,12 +37,14 @@ writes_of ls = chained goes_on with_last write_of (length ls) (as_list (write_of
 
 -- CREATE TABLE table | writes
 abbrev pub console_of : List Lexeme → ConsoleRequest
-console_of ls = if begins k.Create ls then consoles.CreateTable (table_of (drop 2 ls)).0.table else consoles.Writes (writes_of ls).0
+console_of ls =
+    if begins k.Create ls then consoles.CreateTable (table_of (drop 2 ls)).0.table else consoles.Writes (writes_of ls).0
 
 abbrev pub call_with : List ℕ → List Lexeme → Stmt
 call_with name ls =
     if begins k.OpenParen ls then
-    (if begins k.CloseParen (drop 1 ls) then v.Call (record { procedure = name; arguments = [] }) else v.Call (record { procedure = name; arguments = (literals_of (drop 1 ls)).0 }))
+    (if begins k.CloseParen (drop 1 ls) then v.Call (record { procedure = name; arguments = [] }) else v.Call
+    (record { procedure = name; arguments = (literals_of (drop 1 ls)).0 }))
     else v.Call (record { procedure = name; arguments = [] })
 
 abbrev pub call_named : List ℕ × List Lexeme → Stmt
@@ -77,7 +79,8 @@ unfoldable pub which_of : List Lexeme → Which × List Lexeme
 which_of ls = chosen_where (filter_of ls)
 
 abbrev pub loaded : List ℕ → Which → Option ℕ → Option ℕ × List Lexeme → loads.Load × List Lexeme
-loaded group which commit_every x = (record { group = group; which = which; commit_every = commit_every; parallel = x.0 }, x.1)
+loaded group which commit_every x =
+    (record { group = group; which = which; commit_every = commit_every; parallel = x.0 }, x.1)
 
 abbrev pub load_counted : List ℕ → Which → Option ℕ × List Lexeme → loads.Load × List Lexeme
 load_counted group which x = loaded group which x.0 (parallel_of x.1)
@@ -125,7 +128,8 @@ create_of ls = if begins k.Index ls then v.CreateIndex (index_of (drop 1 ls)) el
 
 -- behind DROP
 unfoldable pub drop_of : List Lexeme → Stmt
-drop_of ls = if begins k.Index ls then v.DropIndex (identifier_of (drop 1 ls)).0 else v.DropGroup (name_of (drop 2 ls)).0
+drop_of ls =
+    if begins k.Index ls then v.DropIndex (identifier_of (drop 1 ls)).0 else v.DropGroup (name_of (drop 2 ls)).0
 
 -- what is done to a group: LOAD, REFRESH, UNLOAD, FLUSH, ALTER
 unfoldable pub group_statement_of : List Lexeme → Stmt

@@ -51,7 +51,8 @@ is_open_sign b = nat_eq b 60 || nat_eq b 62 || nat_eq b 33
 -- a token of one byte
 abbrev pub mark_kind : ℕ → Kind
 mark_kind b =
-    if nat_eq b 58 then Colon else if nat_eq b 59 then Semicolon else if nat_eq b 44 then Comma else if nat_eq b 46 then Dot
+    if nat_eq b 58 then Colon else if nat_eq b 59 then Semicolon else if nat_eq b 44 then Comma else if nat_eq b 46
+    then Dot
     else if nat_eq b 40 then OpenParen else if nat_eq b 41 then CloseParen else if nat_eq b 42 then Star
     else if nat_eq b 43 then Plus else if nat_eq b 45 then Minus else if nat_eq b 61 then Equals
     else if nat_eq b 60 then LessThan else if nat_eq b 62 then GreaterThan else Bad
@@ -66,7 +67,10 @@ pair_kind a b =
 -- what a byte begins at this place
 abbrev pub begun : ℕ → ℕ → Scanned
 begun i b =
-    if is_blank b then ([], Blank) else if is_word_byte b then ([], InWord i (b ∷ [])) else if nat_eq b 39 then ([], InText i (b ∷ []))
+    if is_blank b then ([], Blank) else if is_word_byte b then ([], InWord i (b ∷ [])) else if nat_eq b 39 then (
+      [],
+      InText i (b ∷ []),
+    )
     else if is_open_sign b then ([], InSign i b) else (lexeme (mark_kind b) i (b ∷ []) ∷ [], Blank)
 
 abbrev pub behind : Lexeme → Scanned → Scanned
@@ -88,8 +92,11 @@ on (InWord s bs) i b =
     if is_word_byte b then ([], InWord s (bs ++ b ∷ [])) else if is_point_of bs b then ([], AtPoint s bs i)
     else behind (lexeme (word_kind bs) s bs) (begun i b)
 on (AtPoint s bs p) i b =
-    if is_ascii_digit b then ([], InFraction s (bs ++ 46 ∷ []) (b ∷ [])) else behind (lexeme (word_kind bs) s bs) (behind (lexeme Dot p (46 ∷ [])) (begun i b))
-on (InFraction s bs fs) i b = if is_word_byte b then ([], InFraction s bs (fs ++ b ∷ [])) else behind (lexeme (fraction_kind fs) s (bs ++ fs)) (begun i b)
+    if is_ascii_digit b then ([], InFraction s (bs ++ 46 ∷ []) (b ∷ [])) else behind (lexeme (word_kind bs) s bs)
+    (behind (lexeme Dot p (46 ∷ [])) (begun i b))
+on (InFraction s bs fs) i b =
+    if is_word_byte b then ([], InFraction s bs (fs ++ b ∷ [])) else behind (lexeme (fraction_kind fs) s (bs ++ fs))
+    (begun i b)
 on (InText s bs) i b = if nat_eq b 39 then ([], Quoted s (bs ++ b ∷ [])) else ([], InText s (bs ++ b ∷ []))
 on (Quoted s bs) i b = if nat_eq b 39 then ([], InText s (bs ++ b ∷ [])) else behind (lexeme Text s bs) (begun i b)
 on (InSign s a) i b = signed s a i b (pair_kind a b)

@@ -106,7 +106,9 @@ named (e ∷ es) word = if spells word e.0 then e.1 else named es word
 
 -- one digit
 abbrev pub digit_kind : ℕ → Kind
-digit_kind b = if nat_eq b 48 then Zero else if nat_eq b 49 then One else if nat_eq b 50 then Two else if nat_eq b 51 then Three else Integer
+digit_kind b =
+    if nat_eq b 48 then Zero else if nat_eq b 49 then One else if nat_eq b 50 then Two else if nat_eq b 51 then Three
+    else Integer
 
 -- digits: the numbers 0 to 3 of one digit have kinds of their own
 abbrev pub number_kind : List ℕ → Kind
@@ -117,9 +119,10 @@ number_kind (b ∷ c ∷ bs) = Integer
 -- What a run of letters, digits, `_`, `$` and `#` is: digits alone are a number, a letter and up to 29 bytes more a
 -- keyword or an identifier, anything else no token (this project's rule).
 abbrev pub word_kind : List ℕ → Kind
-word_kind word = if list_all is_ascii_digit word then number_kind word else if begins_with_letter word && nat_le (length word) 30 then named keywords word else Bad
+word_kind word = if list_all is_ascii_digit word then number_kind word else if begins_with_letter word
+    && nat_le (length word) 30 then named keywords word else Bad
 
--- What digits, a point and the run of letters, digits, `_`, `$` and `#` behind it are: a decimal number where digits alone
--- follow, else no token (this project's rule).
+-- What digits, a point and the run of letters, digits, `_`, `$` and `#` behind it are: a decimal number where digits
+-- alone follow, else no token (this project's rule).
 abbrev pub fraction_kind : List ℕ → Kind
 fraction_kind run = if list_all is_ascii_digit run then Decimal else Bad

@@ -103,7 +103,8 @@ fn write(
     start: usize,
     end: usize,
 ) -> Result<(), AllocError>
-    ensures { OnOk result (lexemes_of line.now tokens.new.items ≡ lexemes_of line.now tokens.old.items ++ lexeme kind start (slice_range line.now start end) ∷ []) }
+    ensures { OnOk result (lexemes_of line.now tokens.new.items
+        ≡ lexemes_of line.now tokens.old.items ++ lexeme kind start (slice_range line.now start end) ∷ []) }
 {
     let _line = line;
     tokens.push(Token { kind, start, end })?;
@@ -113,7 +114,8 @@ fn write(
 /// Takes a byte while nothing is scanned.
 fn begin(tokens: &mut Vec<Token>, line: &[u8], i: usize) -> Result<State, AllocError>
     requires { i < length line.now }
-    ensures scan { IfOk result (λ s. Takes line.now i tokens.old.items tokens.new.items s (begun i (slice_index line.now i))) }
+    ensures scan { IfOk result (λ s. Takes line.now i tokens.old.items tokens.new.items s
+        (begun i (slice_index line.now i))) }
     ensures began { IfOk result (λ s. Began line.now (i + 1) s) }
 {
     let byte = line[i];
@@ -143,7 +145,8 @@ fn end_word(
     requires within { i < length line.now }
     requires began { start ≤ i }
     requires other { is_word_byte (slice_index line.now i) ≡ false }
-    ensures scan { IfOk result (λ s. Takes line.now i tokens.old.items tokens.new.items s (on (InWord start (slice_range line.now start i)) i (slice_index line.now i))) }
+    ensures scan { IfOk result (λ s. Takes line.now i tokens.old.items tokens.new.items s
+        (on (InWord start (slice_range line.now start i)) i (slice_index line.now i))) }
     ensures began { IfOk result (λ s. Began line.now (i + 1) s) }
 {
     if is_point_of(&line[start..i], line[i]) {
@@ -157,7 +160,8 @@ fn end_word(
 fn go_on(tokens: &mut Vec<Token>, line: &[u8], state: State, i: usize) -> Result<State, AllocError>
     requires within { i < length line.now }
     requires began { Began line.now i state }
-    ensures scan { IfOk result (λ s. Takes line.now i tokens.old.items tokens.new.items s (on (scan_of line.now i state) i (slice_index line.now i))) }
+    ensures scan { IfOk result (λ s. Takes line.now i tokens.old.items tokens.new.items s
+        (on (scan_of line.now i state) i (slice_index line.now i))) }
     ensures began { IfOk result (λ s. Began line.now (i + 1) s) }
 {
     match state {
@@ -215,7 +219,8 @@ fn go_on(tokens: &mut Vec<Token>, line: &[u8], state: State, i: usize) -> Result
 /// Ends what is scanned.
 fn end(tokens: &mut Vec<Token>, line: &[u8], state: State) -> Result<(), AllocError>
     requires { Began line.now (length line.now) state }
-    ensures { OnOk result (lexemes_of line.now tokens.new.items ≡ lexemes_of line.now tokens.old.items ++ at_end (scan_of line.now (length line.now) state)) }
+    ensures { OnOk result (lexemes_of line.now tokens.new.items
+        ≡ lexemes_of line.now tokens.old.items ++ at_end (scan_of line.now (length line.now) state)) }
 {
     let end = line.len();
     match state {

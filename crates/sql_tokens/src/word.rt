@@ -154,7 +154,8 @@ static W_WORDS: [(&'static [u8], Kind); 3] = [
 
 /// The keywords that may be spelled by a word that begins with this letter, which is in upper case.
 fn keywords_from(letter: u8) -> &'static [(&'static [u8], Kind)]
-    ensures { (b : ℕ) (word : List ℕ) → to_ascii_uppercase b ≡ letter → named (map (λ e. (e.0.now, e.1)) result.now) (b ∷ word) ≡ named keywords (b ∷ word) }
+    ensures { (b : ℕ) (word : List ℕ) → to_ascii_uppercase b ≡ letter
+        → named (map (λ e. (e.0.now, e.1)) result.now) (b ∷ word) ≡ named keywords (b ∷ word) }
 {
     match letter {
         b'A' => &A_WORDS,

@@ -1,5 +1,5 @@
--- The normal form of a table: one primary key stands as a clause of its own, its columns and those of the foreign key are
--- NOT NULL, and the numbers of types stand by value, a scale that isn't written being 0 (this project's rule).
+-- The normal form of a table: one primary key stands as a clause of its own, its columns and those of the foreign key
+-- are NOT NULL, and the numbers of types stand by value, a scale that isn't written being 0 (this project's rule).
 use Rattle.std.specs.Prelude.{ℕ, Bool, nat_eq, ◌||◌, ◌&&◌, List, [], ◌∷◌, map, codes, bytes_eq, Option, Some, None, if◌then◌else◌}
 use Rattle.std.specs.List.{filter, list_any}
 use Rattle.std.specs.Option.{option_or, is_none}

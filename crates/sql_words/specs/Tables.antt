@@ -23,7 +23,8 @@ type_words types.Timestamp = codes "TIMESTAMP" ∷ []
 
 -- [NOT NULL] [PRIMARY KEY]
 abbrev pub mark_words : Bool → Bool → List Word
-mark_words not_null primary_key = where_so not_null (codes "NOT" ∷ codes "NULL" ∷ []) ++ where_so primary_key (codes "PRIMARY" ∷ codes "KEY" ∷ [])
+mark_words not_null primary_key =
+    where_so not_null (codes "NOT" ∷ codes "NULL" ∷ []) ++ where_so primary_key (codes "PRIMARY" ∷ codes "KEY" ∷ [])
 
 -- name type [NOT NULL] [PRIMARY KEY]
 abbrev pub column_words : ColumnDeclaration → List Word
@@ -40,12 +41,15 @@ cascade_words cascade = where_so cascade (codes "ON" ∷ codes "DELETE" ∷ code
 
 -- REFERENCES table ( columns ) [ ON DELETE CASCADE ]
 abbrev pub reference_words : ForeignKeyDeclaration → List Word
-reference_words key = codes "REFERENCES" ∷ name_words key.parent ++ enclosed (listed identifier_words key.parent_columns) ++ cascade_words key.cascade
+reference_words key =
+    codes "REFERENCES" ∷ name_words key.parent ++ enclosed (listed identifier_words key.parent_columns)
+    ++ cascade_words key.cascade
 
 -- [ , FOREIGN KEY ( columns ) REFERENCES .. ]
 abbrev pub foreign_words : Option ForeignKeyDeclaration → List Word
 foreign_words None = []
-foreign_words (Some key) = codes "," ∷ codes "FOREIGN" ∷ codes "KEY" ∷ enclosed (listed identifier_words key.columns) ++ reference_words key
+foreign_words (Some key) =
+    codes "," ∷ codes "FOREIGN" ∷ codes "KEY" ∷ enclosed (listed identifier_words key.columns) ++ reference_words key
 
 -- [ , READONLY | , PROPAGATE | , NOT PROPAGATE ]
 abbrev pub attribute_words : Option TableAttribute → List Word
@@ -56,7 +60,8 @@ attribute_words (Some attributes.NotPropagate) = codes "," ∷ codes "NOT" ∷ c
 
 -- columns and keys
 abbrev pub element_words : TableDeclaration → List Word
-element_words table = listed column_words table.columns ++ key_words table.primary_key ++ foreign_words table.foreign_key
+element_words table =
+    listed column_words table.columns ++ key_words table.primary_key ++ foreign_words table.foreign_key
 
 -- name ( columns, keys, attribute )
 abbrev pub table_words : TableDeclaration → Option TableAttribute → List Word

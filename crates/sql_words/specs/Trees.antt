@@ -63,7 +63,8 @@ condition_words s (Missing negated a) = expression_words a ++ codes "IS" ∷ not
 condition_words s (Between negated a low high) = expression_words a ++ not_words negated ++ range_words low high
 condition_words s (Among negated a list) = expression_words a ++ not_words negated ++ membership_words list
 condition_words s (Not a) = codes "NOT" ∷ condition_words Tight a
-condition_words s (All a b) = bracketed (binds_and s) (condition_words Middle a ++ codes "AND" ∷ condition_words Tight b)
+condition_words s (All a b) =
+    bracketed (binds_and s) (condition_words Middle a ++ codes "AND" ∷ condition_words Tight b)
 condition_words s (Any a b) = bracketed (binds_or s) (condition_words Loose a ++ codes "OR" ∷ condition_words Middle b)
 
 -- [ WHERE condition ]

@@ -89,7 +89,8 @@ fn put_compared(
     left: &Expression,
     right: &Expression,
 ) -> Result<(), AllocError>
-    ensures { OnOk result (out.new.items ≡ out.old.items ++ spaced (expression_words left.now ++ comparator_word comparator ∷ expression_words right.now)) }
+    ensures { OnOk result (out.new.items ≡ out.old.items
+        ++ spaced (expression_words left.now ++ comparator_word comparator ∷ expression_words right.now)) }
 {
     put_expression(out, left)?;
     put(out, comparator_word(comparator))?;
@@ -97,7 +98,8 @@ fn put_compared(
 }
 
 fn put_missing(out: &mut Vec<u8>, negated: bool, expression: &Expression) -> Result<(), AllocError>
-    ensures { OnOk result (out.new.items ≡ out.old.items ++ spaced (expression_words expression.now ++ codes "IS" ∷ not_words negated ++ codes "NULL" ∷ [])) }
+    ensures { OnOk result (out.new.items ≡ out.old.items
+        ++ spaced (expression_words expression.now ++ codes "IS" ∷ not_words negated ++ codes "NULL" ∷ [])) }
 {
     put_expression(out, expression)?;
     put(out, b"IS")?;

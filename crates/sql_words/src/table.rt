@@ -43,7 +43,9 @@ fn put_number_type(
     precision: &Text,
     scale: &Option<Text>,
 ) -> Result<(), AllocError>
-    ensures { OnOk result (out.new.items ≡ out.old.items ++ spaced (codes "NUMBER" ∷ codes "(" ∷ by_value precision.now ∷ codes "," ∷ scale_by_value scale.now ∷ codes ")" ∷ [])) }
+    ensures { OnOk result (out.new.items ≡ out.old.items
+        ++ spaced (codes "NUMBER" ∷ codes "(" ∷ by_value precision.now ∷ codes "," ∷ scale_by_value scale.now
+        ∷ codes ")" ∷ [])) }
 {
     put(out, b"NUMBER (")?;
     put(out, by_value(precision.as_bytes()))?;
@@ -158,7 +160,8 @@ fn put_column(
     key: &Option<Seq<Name>>,
     foreign: &Option<ForeignKeyDeclaration>,
 ) -> Result<(), AllocError>
-    ensures { OnOk result (out.new.items ≡ out.old.items ++ spaced (column_words (normal_column key.now (foreign_columns foreign.now) column.now))) }
+    ensures { OnOk result (out.new.items ≡ out.old.items
+        ++ spaced (column_words (normal_column key.now (foreign_columns foreign.now) column.now))) }
 {
     let named = is_key_column(&column.name, key);
     let referring = is_foreign_column(&column.name, foreign);
@@ -178,7 +181,8 @@ fn put_more_columns(
     key: &Option<Seq<Name>>,
     foreign: &Option<ForeignKeyDeclaration>,
 ) -> Result<(), AllocError>
-    ensures { OnOk result (out.new.items ≡ out.old.items ++ spaced (more (λ c. column_words (normal_column key.now (foreign_columns foreign.now) c)) columns.now)) }
+    ensures { OnOk result (out.new.items ≡ out.old.items
+        ++ spaced (more (λ c. column_words (normal_column key.now (foreign_columns foreign.now) c)) columns.now)) }
 {
     for column in columns {
         put(out, b",")?;
@@ -193,7 +197,8 @@ fn put_columns(
     key: &Option<Seq<Name>>,
     foreign: &Option<ForeignKeyDeclaration>,
 ) -> Result<(), AllocError>
-    ensures { OnOk result (out.new.items ≡ out.old.items ++ spaced (listed (λ c. column_words (normal_column key.now (foreign_columns foreign.now) c)) columns.now)) }
+    ensures { OnOk result (out.new.items ≡ out.old.items
+        ++ spaced (listed (λ c. column_words (normal_column key.now (foreign_columns foreign.now) c)) columns.now)) }
 {
     match columns.split_first() {
         None => Ok(()),

@@ -8,7 +8,8 @@ use itoa::Buffer;
 use std::alloc::AllocError;
 use tier_base::Name;
 
-/// Puts a space and the word, or words that have their spaces. The error is want of memory; what was put then isn't told.
+/// Puts a space and the word, or words that have their spaces. The error is want of memory; what was put then isn't
+/// told.
 pub fn put(out: &mut Vec<u8>, word: &[u8]) -> Result<(), AllocError>
     ensures { OnOk result (out.new.items ≡ out.old.items ++ 32 ∷ word.now) }
 {

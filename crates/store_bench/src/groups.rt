@@ -20,8 +20,8 @@ const CHILD: TableId = TableId(1);
 /// The child rows of an instance.
 const CHILDREN: usize = 9;
 
-/// Puts instances of ten rows in, looks the first child of each up, touches each and drops each second one. How many are
-/// left.
+/// Puts instances of ten rows in, looks the first child of each up, touches each and drops each second one. How many
+/// are left.
 pub fn measure_instances(rt: &HostRuntime, rows: usize) -> Result<usize, BenchError> {
     let instances = rows / (CHILDREN + 1);
     let mut store = new_store(rt.alloc())?;

@@ -1,10 +1,11 @@
-//! `store_bench`: what calls of `slot_rows` and `group_store` cost beside those of `indexed_rows`, in one run, and a look-up
-//! through a session's own writes beside one in the rows alone.
+//! `store_bench`: what calls of `slot_rows` and `group_store` cost beside those of `indexed_rows`, in one run, and a
+//! look-up through a session's own writes beside one in the rows alone.
 //!
-//! Its first word is a number of rows, 1,000 to 10,000,000. Standard output has what the calls found, and standard error the
-//! nanoseconds of a call. A second word measures one of them alone, so that the memory of the process is its own: `keys` or
-//! `slots` rows by key, `index` or `order` child rows with their order by parent, `overlay` a session's look-ups. Its status
-//! is 0, or 1 where the words are others, memory is wanting or the system has no clock.
+//! Its first word is a number of rows, 1,000 to 10,000,000. Standard output has what the calls found, and standard
+//! error the nanoseconds of a call. A second word measures one of them alone, so that the memory of the process is its
+//! own: `keys` or
+//! `slots` rows by key, `index` or `order` child rows with their order by parent, `overlay` a session's look-ups. Its
+//! status is 0, or 1 where the words are others, memory is wanting or the system has no clock.
 #![tactic(auto)]
 
 mod error;

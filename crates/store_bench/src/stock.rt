@@ -16,8 +16,8 @@ use tier_base::{Name, Seq, TableId};
 /// The table.
 pub const TABLE: TableId = TableId(0);
 
-/// The definition of a table of three whole numbers, the first of them its key. Its names have no bytes, since nothing asks
-/// for them.
+/// The definition of a table of three whole numbers, the first of them its key. Its names have no bytes, since nothing
+/// asks for them.
 pub fn table_of_numbers(alloc: Global) -> Result<TableDef, AllocError>
     ensures { IfOk result IsPlain }
 {

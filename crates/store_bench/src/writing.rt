@@ -22,8 +22,8 @@ use transactions::{judge_delete, judge_insert, judge_update};
 /// How many operations a session has.
 pub const WRITES: usize = 1_000;
 
-/// The number in the key that is written at a place, from 0. Each third place writes a key that the table hasn't, and the
-/// others keys that it has.
+/// The number in the key that is written at a place, from 0. Each third place writes a key that the table hasn't, and
+/// the others keys that it has.
 pub fn written(place: usize, rows: usize) -> usize {
     if place % 3 == 0 {
         rows.wrapping_add(place)

@@ -67,11 +67,14 @@ first_repeated before (c ∷ columns) =
 abbrev pub first_wrong : List ColumnDeclaration → List (List ℕ) → List (List ℕ) → Option (List ℕ)
 first_wrong columns before [] = None
 first_wrong columns before (name ∷ names) =
-    if is_some (place_of_column columns name) && not (is_listed before name) then first_wrong columns (before ++ name ∷ []) names else Some name
+    if is_some (place_of_column columns name)
+    && not (is_listed before name) then first_wrong columns (before ++ name ∷ []) names else Some name
 
 -- 103: in the order of the text, the columns first and then the clauses
 abbrev pub wrong_name : TableDeclaration → Option (List ℕ)
-wrong_name d = option_or (first_repeated [] d.columns) (option_or (first_wrong d.columns [] (key_names d)) (first_wrong d.columns [] (foreign_names d)))
+wrong_name d =
+    option_or (first_repeated [] d.columns) (option_or (first_wrong d.columns [] (key_names d))
+    (first_wrong d.columns [] (foreign_names d)))
 
 -- 113: the name is another table's
 abbrev pub taken_name : List TableDef → List ℕ → Option (List ℕ)
@@ -88,12 +91,14 @@ number_of digits = fold (λ n digit. 10 * n + (digit - 48)) 0 digits
 -- VARCHAR2 takes a number from 1 to 4000
 abbrev pub text_type : List ℕ → Option Ty
 text_type digits =
-    if list_all is_ascii_digit digits && nat_le 1 (number_of digits) && nat_le (number_of digits) 4000 then Some (ty.Varchar2 (number_of digits)) else None
+    if list_all is_ascii_digit digits && nat_le 1 (number_of digits)
+    && nat_le (number_of digits) 4000 then Some (ty.Varchar2 (number_of digits)) else None
 
 -- NUMBER takes a precision from 1 to 18 and a scale from 0 to it
 abbrev pub number_type : List ℕ → List ℕ → Option Ty
 number_type precision scale =
-    if list_all is_ascii_digit precision && list_all is_ascii_digit scale && nat_le 1 (number_of precision) && nat_le (number_of precision) 18 && nat_le (number_of scale) (number_of precision)
+    if list_all is_ascii_digit precision && list_all is_ascii_digit scale && nat_le 1 (number_of precision)
+    && nat_le (number_of precision) 18 && nat_le (number_of scale) (number_of precision)
     then Some (ty.Number (number_of precision) (number_of scale)) else None
 
 -- the type, where there is such a type; a scale that isn't there is 0
@@ -135,7 +140,8 @@ refers_to_key columns parent names others places = false
 
 abbrev pub is_reference : List ColumnDeclaration → ForeignKeyDeclaration → Option TableDef → Bool
 is_reference columns f None = false
-is_reference columns f (Some parent) = refers_to_key columns parent.columns f.columns f.parent_columns parent.primary_key
+is_reference columns f (Some parent) =
+    refers_to_key columns parent.columns f.columns f.parent_columns parent.primary_key
 
 -- the definition of the parent
 abbrev pub parent_of : List TableDef → ForeignKeyDeclaration → Option TableDef
@@ -169,7 +175,8 @@ places_of columns names = map (λ name. unwrap_or (place_of_column columns name)
 -- the primary key: the clause's, or else the column's with PRIMARY KEY behind it
 abbrev pub key_places : TableDeclaration → List ℕ
 key_places d =
-    if length (key_names d) == 0 then unwrap_or (position (λ c. c.primary_key) d.columns) 0 ∷ [] else places_of d.columns (key_names d)
+    if length (key_names d) == 0 then unwrap_or (position (λ c. c.primary_key) d.columns) 0
+    ∷ [] else places_of d.columns (key_names d)
 
 -- a column that is declared so refuses NULL, and each column of a key
 abbrev pub refuses_null : TableDeclaration → ColumnDeclaration → Bool
@@ -215,4 +222,5 @@ abbrev pub limit_of : TableDef → List TableDef → Option Limit
 limit_of def schema =
     if nat_le (greatest Tables) (length schema) then Some Tables else
     if nat_lt (greatest Columns) (length def.columns) then Some Columns else
-    if nat_lt (greatest KeyColumns) (length def.primary_key) || nat_lt (greatest KeyColumns) (length (foreign_places def.foreign_key)) then Some KeyColumns else None
+    if nat_lt (greatest KeyColumns) (length def.primary_key)
+    || nat_lt (greatest KeyColumns) (length (foreign_places def.foreign_key)) then Some KeyColumns else None

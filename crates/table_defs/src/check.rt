@@ -173,8 +173,8 @@ fn refuses_null(declaration: &TableDeclaration, column: &ColumnDeclaration) -> b
         || is_listed(foreign_names(declaration), &column.name)
 }
 
-/// The places of the primary key's columns: the clause's, or else that of the column with PRIMARY KEY behind it. It fails for
-/// want of memory alone.
+/// The places of the primary key's columns: the clause's, or else that of the column with PRIMARY KEY behind it. It
+/// fails for want of memory alone.
 pub fn key_places(alloc: Global, declaration: &TableDeclaration) -> Result<Seq<usize>, AllocError>
     ensures { IfOk result (λ places. places ≡ key_places declaration.now) }
 {
@@ -217,7 +217,8 @@ fn resolved_foreign_key(
     declaration: &TableDeclaration,
     schema: &BackingSchema,
 ) -> Result<Option<ForeignKey>, AllocError>
-    ensures { IfOk result (λ foreign. foreign ≡ option_map (resolved_reference declaration.now schema.now) declaration.now.foreign_key) }
+    ensures { IfOk result (λ foreign. foreign
+        ≡ option_map (resolved_reference declaration.now schema.now) declaration.now.foreign_key) }
 {
     match &declaration.foreign_key {
         None => Ok(None),

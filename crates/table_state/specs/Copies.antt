@@ -13,4 +13,5 @@ is_one_of tables t = list_any (λ one. nat_eq one.0 t.0) tables
 -- the tables that were asked for, and the others without rows; the first of all is at this place
 abbrev pub only_asked : List TableId → ℕ → List Table → List Table
 only_asked asked place [] = []
-only_asked asked place (table ∷ tables) = (if is_one_of asked (record { 0 = place }) then table else empty) ∷ only_asked asked (suc place) tables
+only_asked asked place (table ∷ tables) =
+    (if is_one_of asked (record { 0 = place }) then table else empty) ∷ only_asked asked (suc place) tables

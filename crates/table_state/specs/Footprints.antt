@@ -43,7 +43,8 @@ referred_by schema op = flat_map (referred_key (slice_get schema (table_of op).0
 
 -- the keys that the operations write, and those of the parents that their rows name
 abbrev pub footprint_of : List TableDef → List Op → Footprint
-footprint_of schema ops = record { written = flat_map (written_by schema) ops; referred = flat_map (referred_by schema) ops }
+footprint_of schema ops =
+    record { written = flat_map (written_by schema) ops; referred = flat_map (referred_by schema) ops }
 
 abbrev pub same_row_key : RowKey → RowKey → Bool
 same_row_key a b = nat_eq a.table.0 b.table.0 && is_same a.key b.key

@@ -44,7 +44,8 @@ has_ticket ticket (entry ∷ entries) = is_of ticket entry || has_ticket ticket 
 -- the position behind the entry with the ticket, the first where there are several
 abbrev pub position_of : ℕ → List Entry → Option ℕ
 position_of ticket [] = None
-position_of ticket (entry ∷ entries) = if is_of ticket entry then Some 1 else option_map (λ n. n + 1) (position_of ticket entries)
+position_of ticket (entry ∷ entries) =
+    if is_of ticket entry then Some 1 else option_map (λ n. n + 1) (position_of ticket entries)
 
 -- the entry of a committed transaction
 abbrev pub entry_of : Sealed → Entry

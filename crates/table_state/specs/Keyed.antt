@@ -1,4 +1,5 @@
--- Rows that stand under their own primary keys, and fit the columns. (TimesTen SQL Reference, "CREATE TABLE": primary keys.)
+-- Rows that stand under their own primary keys, and fit the columns. (TimesTen SQL Reference, "CREATE TABLE": primary
+-- keys.)
 
 use Rattle.std.specs.Prelude.{◌≡◌, ℕ, List, Some, slice_get, true}
 use Rattle.std.specs.FinMap.{get}
@@ -16,4 +17,5 @@ HasFit columns table = (key row : List Value) → get table key ≡ Some row →
 
 -- in each table of the state the rows stand under their keys, and fit the columns
 abbrev pub IsKeyed : TableState → Type 0
-IsKeyed s = (t : ℕ) (def : TableDef) (table : Table) → slice_get s.schema t ≡ Some def → slice_get s.tables t ≡ Some table → IsUnderKeys def.primary_key table × HasFit def.columns table
+IsKeyed s = (t : ℕ) (def : TableDef) (table : Table) → slice_get s.schema t ≡ Some def
+    → slice_get s.tables t ≡ Some table → IsUnderKeys def.primary_key table × HasFit def.columns table

@@ -17,22 +17,27 @@ only_if test x = if test then Some x else None
 -- the row goes in where its key is new, it fits and its parent is there
 abbrev pub with_row : TableState → List Value → TableDef → Table → Option Table
 with_row s row def table =
-    only_if (fits_columns def.columns row && not (contains_key table (key_of def.primary_key row)) && has_parent s def.foreign_key row) (insert table (key_of def.primary_key row) row)
+    only_if (fits_columns def.columns row && not (contains_key table (key_of def.primary_key row))
+    && has_parent s def.foreign_key row) (insert table (key_of def.primary_key row) row)
 
 -- the row that is there becomes another of the same key, which fits and whose parent is there
 abbrev pub with_change : TableState → List Value → List Value → TableDef → Table → Option Table
 with_change s old new def table =
-    only_if (fits_columns def.columns new && is_same (key_of def.primary_key old) (key_of def.primary_key new) && is_there def old table && has_parent s def.foreign_key new) (insert table (key_of def.primary_key new) new)
+    only_if (fits_columns def.columns new && is_same (key_of def.primary_key old) (key_of def.primary_key new)
+    && is_there def old table && has_parent s def.foreign_key new) (insert table (key_of def.primary_key new) new)
 
 -- the row that is there leaves where it has no child
 abbrev pub without_row : TableState → TableId → List Value → TableDef → Table → Option Table
 without_row s t old def table =
-    only_if (is_there def old table && not (has_child s t (key_of def.primary_key old))) (remove table (key_of def.primary_key old))
+    only_if (is_there def old table && not (has_child s t (key_of def.primary_key old)))
+    (remove table (key_of def.primary_key old))
 
 -- one table of the state changes
 abbrev pub on_table : TableState → TableId → (TableDef → Table → Option Table) → Option TableState
 on_table s t change =
-    option_and_then (λ def. option_and_then (λ table. option_map (λ new. record { schema = s.schema; tables = slice_set s.tables t.0 new }) (change def table)) (slice_get s.tables t.0)) (slice_get s.schema t.0)
+    option_and_then (λ def. option_and_then (λ table.
+    option_map (λ new. record { schema = s.schema; tables = slice_set s.tables t.0 new }) (change def table))
+    (slice_get s.tables t.0)) (slice_get s.schema t.0)
 
 -- one operation; none where it doesn't apply
 abbrev pub applied : Op → TableState → Option TableState

@@ -48,13 +48,15 @@ first_refused code (column ∷ columns) [] = None
 -- a column that refuses it.
 abbrev pub misfit : List Column → List Value → Option ApplyError
 misfit columns row =
-    if length row == length columns then option_or (refused_at OutOfRange (first_refused OutOfRange columns row)) (refused_at NullNotAllowed (first_refused NullNotAllowed columns row))
+    if length row == length columns then option_or (refused_at OutOfRange (first_refused OutOfRange columns row))
+    (refused_at NullNotAllowed (first_refused NullNotAllowed columns row))
     else refused TypeMismatch detail.Nothing
 
 -- 107: the key has a row
 abbrev pub taken_key : TableDef → List Value → Table → Option ApplyError
 taken_key def row table =
-    if contains_key table (key_of def.primary_key row) then refused KeyExists (detail.Row def.name (key_of def.primary_key row)) else None
+    if contains_key table (key_of def.primary_key row) then refused KeyExists
+    (detail.Row def.name (key_of def.primary_key row)) else None
 
 abbrev pub row_of : List Value → Option TableDef → Detail
 row_of key None = detail.Nothing
@@ -71,7 +73,8 @@ missing_parent s def row =
 
 -- the least key of a row that refers to the row of this table and key
 abbrev pub child_of : TableId → List Value → TableDef → Table → Option Detail
-child_of t key def table = option_map (λ e. detail.Row def.name e.0) (find (λ e. names_parent t key def.foreign_key e.1) (entries table))
+child_of t key def table =
+    option_map (λ e. detail.Row def.name e.0) (find (λ e. names_parent t key def.foreign_key e.1) (entries table))
 
 -- the same of all tables, in the order of their definition
 abbrev pub first_child : TableId → List Value → List TableDef → List Table → Option Detail
@@ -86,7 +89,8 @@ has_children s t key = option_and_then (λ child. refused ChildExists child) (fi
 -- the row that is there at the key isn't this one
 abbrev pub differing : TableId → TableDef → List Value → Table → Option ApplyError
 differing t def row table =
-    if is_there def row table then None else Some (error.Differs t (key_of def.primary_key row) (get table (key_of def.primary_key row)))
+    if is_there def row table then None else Some
+    (error.Differs t (key_of def.primary_key row) (get table (key_of def.primary_key row)))
 
 abbrev pub column_name : Option Column → Detail
 column_name None = detail.Nothing
@@ -94,14 +98,18 @@ column_name (Some column) = detail.Name column.name
 
 -- 118: a column of the primary key changes
 abbrev pub changed_key : TableDef → List Value → List Value → Option ApplyError
-changed_key def old new = option_and_then (λ place. refused KeyColumnSet (column_name (slice_get def.columns place))) (find (changes old new) def.primary_key)
+changed_key def old new =
+    option_and_then (λ place. refused KeyColumnSet (column_name (slice_get def.columns place)))
+    (find (changes old new) def.primary_key)
 
 abbrev pub insert_fault : TableState → List Value → TableDef → Table → Option ApplyError
-insert_fault s row def table = option_or (misfit def.columns row) (option_or (taken_key def row table) (missing_parent s def row))
+insert_fault s row def table =
+    option_or (misfit def.columns row) (option_or (taken_key def row table) (missing_parent s def row))
 
 abbrev pub update_fault : TableState → TableId → List Value → List Value → TableDef → Table → Option ApplyError
 update_fault s t old new def table =
-    option_or (changed_key def old new) (option_or (misfit def.columns new) (option_or (differing t def old table) (missing_parent s def new)))
+    option_or (changed_key def old new) (option_or (misfit def.columns new)
+    (option_or (differing t def old table) (missing_parent s def new)))
 
 abbrev pub delete_fault : TableState → TableId → List Value → TableDef → Table → Option ApplyError
 delete_fault s t old def table = option_or (differing t def old table) (has_children s t (key_of def.primary_key old))
@@ -132,7 +140,8 @@ broken_by_entry (Own ticket ops) s = broken_by_all ops s
 -- the first rule that one of the entries breaks, behind those before it
 abbrev pub broken_in : List Entry → TableState → Option ApplyError
 broken_in [] s = None
-broken_in (entry ∷ entries) s = option_or (broken_by_entry entry s) (option_and_then (broken_in entries) (after_entry entry s))
+broken_in (entry ∷ entries) s =
+    option_or (broken_by_entry entry s) (option_and_then (broken_in entries) (after_entry entry s))
 
 -- the error tells this fault; memory may be wanting at any time
 abbrev pub IsFault : Option ApplyError → ApplyError → Type 0

@@ -17,11 +17,13 @@ IsUnderKeys places table = (key row : List Value) → get table key ≡ Some row
 
 -- each row has a value for each column, of its type, and NULL only where it may stand
 abbrev pub HasFittingRows : TableState → Type 0
-HasFittingRows s = (t : TableId) (def : TableDef) (key row : List Value) → slice_get s.schema t.0 ≡ Some def → get (table_at s t) key ≡ Some row → fits_columns def.columns row ≡ true
+HasFittingRows s = (t : TableId) (def : TableDef) (key row : List Value) → slice_get s.schema t.0 ≡ Some def
+    → get (table_at s t) key ≡ Some row → fits_columns def.columns row ≡ true
 
 -- each foreign key names a row that is there
 abbrev pub IsLinked : TableState → Type 0
-IsLinked s = (t : TableId) (def : TableDef) (key row : List Value) → slice_get s.schema t.0 ≡ Some def → get (table_at s t) key ≡ Some row → has_parent s def.foreign_key row ≡ true
+IsLinked s = (t : TableId) (def : TableDef) (key row : List Value) → slice_get s.schema t.0 ≡ Some def
+    → get (table_at s t) key ≡ Some row → has_parent s def.foreign_key row ≡ true
 
 -- the definition's foreign key refers to one of the first so many tables
 abbrev pub RefersBack : ℕ → TableDef → Type 0
@@ -32,6 +34,7 @@ RefersBack n def = (foreign : ForeignKey) → def.foreign_key ≡ Some foreign �
 pub record IsTableState (s : TableState) : Type 0 where
   pub whole : IsWhole s
   pub back : (t : ℕ) (def : TableDef) → slice_get s.schema t ≡ Some def → RefersBack t def
-  pub keys : (t : TableId) (def : TableDef) → slice_get s.schema t.0 ≡ Some def → IsUnderKeys def.primary_key (table_at s t)
+  pub keys : (t : TableId) (def : TableDef) → slice_get s.schema t.0 ≡ Some def
+      → IsUnderKeys def.primary_key (table_at s t)
   pub fits : HasFittingRows s
   pub linked : IsLinked s

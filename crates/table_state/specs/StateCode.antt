@@ -11,5 +11,6 @@ use Rattle.table_state.specs.Tables.{TableState}
 
 abbrev pub state_code : Coded TableState
 state_code =
-    code_by (List TableDef × List Table) (coded× (coded_list definition.the_row.coded) (coded_list (map.code (coded_list one.the_row.coded) (coded_list one.the_row.coded))))
+    code_by (List TableDef × List Table) (coded× (coded_list definition.the_row.coded)
+    (coded_list (map.code (coded_list one.the_row.coded) (coded_list one.the_row.coded))))
     (λ s. (s.schema, s.tables)) (λ p. record { schema = p.0; tables = p.1 }) (λ _. refl)

@@ -45,7 +45,8 @@ names_parent t key (Some foreign) row = is_table t foreign.parent && is_same (ke
 abbrev pub has_child_in : List TableDef → List Table → TableId → List Value → Bool
 has_child_in [] tables t key = false
 has_child_in (def ∷ defs) [] t key = false
-has_child_in (def ∷ defs) (table ∷ tables) t key = list_any (names_parent t key def.foreign_key) (values table) || has_child_in defs tables t key
+has_child_in (def ∷ defs) (table ∷ tables) t key = list_any (names_parent t key def.foreign_key) (values table)
+    || has_child_in defs tables t key
 
 abbrev pub has_child : TableState → TableId → List Value → Bool
 has_child s t key = has_child_in s.schema s.tables t key

@@ -27,7 +27,8 @@ impl Tables {
     pub fn copied_of(&self, alloc: Global, asked: &[TableId]) -> Result<Tables, AllocError>
         ensures schema { IfOk result (λ copy. copy.schema ≡ self.now.schema) }
         ensures whole { IfOk result (λ copy. length copy.tables ≡ length self.now.tables) }
-        ensures rows { IfOk result (λ copy. (t : TableId) → table_at copy t ≡ (if is_one_of asked.now t then table_at self.now t else empty)) }
+        ensures rows { IfOk result (λ copy. (t : TableId)
+            → table_at copy t ≡ (if is_one_of asked.now t then table_at self.now t else empty)) }
     {
         let schema = copied_schema(alloc, self.schema.as_slice())?;
         let rows = copied_asked(alloc, self.rows.as_slice(), asked)?;

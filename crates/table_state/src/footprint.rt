@@ -120,8 +120,10 @@ impl Footprint {
         def: Option<&TableDef>,
         row: &Row,
     ) -> Result<(), AllocError>
-        ensures written { OnOk result (self.new.written ≡ self.old.written ++ written_key table (option_copied def.entry) row.now) }
-        ensures referred { OnOk result (self.new.referred ≡ self.old.referred ++ referred_key (option_copied def.entry) row.now) }
+        ensures written { OnOk result (self.new.written ≡ self.old.written
+            ++ written_key table (option_copied def.entry) row.now) }
+        ensures referred { OnOk result (self.new.referred ≡ self.old.referred
+            ++ referred_key (option_copied def.entry) row.now) }
     {
         match def {
             None => Ok(()),

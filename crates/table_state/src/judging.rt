@@ -135,7 +135,8 @@ impl Tables {
 }
 
 fn check_new(alloc: Global, def: &TableDef, rows: &Rows, key: &Key) -> Result<(), ApplyError>
-    ensures { Judges result (if map.contains_key rows.now key.now then refused code.KeyExists (detail.Row def.now.name key.now) else None) }
+    ensures { Judges result (if map.contains_key rows.now key.now then refused code.KeyExists
+        (detail.Row def.now.name key.now) else None) }
 {
     if !rows.contains_key(key) {
         return Ok(());
@@ -152,7 +153,8 @@ fn check_there(
     key: &Key,
     row: &Row,
 ) -> Result<(), ApplyError>
-    ensures { Judges result (if is_found row.now (map.get rows.now key.now) then None else Some (error.Differs table key.now (map.get rows.now key.now))) }
+    ensures { Judges result (if is_found row.now (map.get rows.now key.now) then None else Some
+        (error.Differs table key.now (map.get rows.now key.now))) }
 {
     match rows.get(key) {
         None => {
@@ -215,7 +217,8 @@ fn child_place(
     foreign_key: &Option<ForeignKey>,
     rows: &IndexedRows,
 ) -> Option<usize>
-    ensures found { option_and_then (slice_get (map.entries rows.now)) result ≡ find (λ e. names_parent table key.now foreign_key.now e.1) (map.entries rows.now) }
+    ensures found { option_and_then (slice_get (map.entries rows.now)) result
+        ≡ find (λ e. names_parent table key.now foreign_key.now e.1) (map.entries rows.now) }
     ensures within { IfSome result (λ place. place < map.len rows.now) }
 {
     match foreign_key {

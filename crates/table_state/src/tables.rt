@@ -87,7 +87,11 @@ impl Tables {
     ///
     /// It fails for want of memory alone, and the tables then are as they were.
     pub fn define(&mut self, alloc: Global, def: TableDef) -> Result<(), AllocError>
-        ensures ok { OnOk result (self.new ≡ record { schema = self.old.schema ++ def ∷ []; tables = self.old.tables ++ map.empty ∷ [] }) }
+        ensures ok { OnOk result (self.new ≡ record {
+          schema = self.old.schema ++ def ∷ [];
+          tables =
+              self.old.tables ++ map.empty ∷ [];
+        }) }
         ensures err { OnErr result (self.new ≡ self.old) }
     {
         let rows = bare_rows(alloc, &def.foreign_key)?;

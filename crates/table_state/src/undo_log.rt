@@ -40,7 +40,8 @@ impl UndoLog {
     /// It fails for want of memory alone, and both then are as they were.
     pub fn append(&mut self, later: &mut UndoLog) -> Result<(), AllocError>
         ensures ok { OnOk result (self.new ≡ self.old ++ later.old) }
-        ensures back { OnOk result ((before between behind : TableState) → LeadsBack self.old between before → LeadsBack later.old behind between → LeadsBack self.new behind before) }
+        ensures back { OnOk result ((before between behind : TableState) → LeadsBack self.old between before
+            → LeadsBack later.old behind between → LeadsBack self.new behind before) }
         ensures unchanged { OnErr result ((self.new ≡ self.old) × (later.new ≡ later.old)) }
     {
         self.undos.append(&mut later.undos)?;

@@ -23,11 +23,16 @@ is_among (word ∷ words) bytes = spells bytes word || is_among words bytes
 -- the words that are no identifiers
 abbrev pub reserved : List (List ℕ)
 reserved =
-    codes "SELECT" ∷ codes "FROM" ∷ codes "WHERE" ∷ codes "AND" ∷ codes "OR" ∷ codes "NOT" ∷ codes "NULL" ∷ codes "IS" ∷ codes "IN"
-    ∷ codes "BETWEEN" ∷ codes "ORDER" ∷ codes "BY" ∷ codes "ASC" ∷ codes "DESC" ∷ codes "INSERT" ∷ codes "INTO" ∷ codes "VALUES"
-    ∷ codes "UPDATE" ∷ codes "SET" ∷ codes "DELETE" ∷ codes "CREATE" ∷ codes "ALTER" ∷ codes "DROP" ∷ codes "TABLE" ∷ codes "CACHE"
-    ∷ codes "GROUP" ∷ codes "PRIMARY" ∷ codes "FOREIGN" ∷ codes "KEY" ∷ codes "REFERENCES" ∷ codes "ON" ∷ codes "CASCADE"
-    ∷ codes "TIMESTAMP" ∷ codes "COUNT" ∷ codes "SUM" ∷ codes "MIN" ∷ codes "MAX" ∷ codes "CALL" ∷ codes "COMMIT" ∷ codes "ROLLBACK"
+    codes "SELECT" ∷ codes "FROM" ∷ codes "WHERE" ∷ codes "AND" ∷ codes "OR" ∷ codes "NOT" ∷ codes "NULL" ∷ codes "IS"
+    ∷ codes "IN"
+    ∷ codes "BETWEEN" ∷ codes "ORDER" ∷ codes "BY" ∷ codes "ASC" ∷ codes "DESC" ∷ codes "INSERT" ∷ codes "INTO"
+    ∷ codes "VALUES"
+    ∷ codes "UPDATE" ∷ codes "SET" ∷ codes "DELETE" ∷ codes "CREATE" ∷ codes "ALTER" ∷ codes "DROP" ∷ codes "TABLE"
+    ∷ codes "CACHE"
+    ∷ codes "GROUP" ∷ codes "PRIMARY" ∷ codes "FOREIGN" ∷ codes "KEY" ∷ codes "REFERENCES" ∷ codes "ON"
+    ∷ codes "CASCADE"
+    ∷ codes "TIMESTAMP" ∷ codes "COUNT" ∷ codes "SUM" ∷ codes "MIN" ∷ codes "MAX" ∷ codes "CALL" ∷ codes "COMMIT"
+    ∷ codes "ROLLBACK"
     ∷ codes "LOAD" ∷ codes "REFRESH" ∷ codes "UNLOAD" ∷ codes "FLUSH" ∷ codes "AGING" ∷ []
 
 abbrev pub is_reserved_word : List ℕ → Bool
@@ -43,7 +48,8 @@ begins_with_letter (b ∷ bytes) = is_ascii_alphabetic b
 
 -- an identifier: a letter and then letters, digits, _, $ and #, up to 30 bytes, and no reserved word
 abbrev pub is_identifier : List ℕ → Bool
-is_identifier bytes = begins_with_letter bytes && list_all is_word_byte bytes && nat_le (length bytes) 30 && not (is_reserved_word bytes)
+is_identifier bytes = begins_with_letter bytes && list_all is_word_byte bytes && nat_le (length bytes) 30
+    && not (is_reserved_word bytes)
 
 -- an identifier, or with a dot an owner and an identifier (no identifier has a dot)
 abbrev pub is_name_at : List ℕ → Option ℕ → Bool

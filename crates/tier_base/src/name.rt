@@ -29,8 +29,9 @@ impl From<AllocError> for NameError {
     }
 }
 
-/// The name of a table, a column or a group: one identifier, or an owner and an identifier with a dot between; of a column
-/// also the name of its table, a dot and an identifier. The whole is the name. Letters are folded to upper case, and clauses see the folded bytes.
+/// The name of a table, a column or a group: one identifier, or an owner and an identifier with a dot between; of a
+/// column also the name of its table, a dot and an identifier. The whole is the name. Letters are folded to upper case,
+/// and clauses see the folded bytes.
 #[derive(Debug, Drop)]
 pub struct Name {
     bytes: Vec<u8>,
@@ -64,7 +65,8 @@ impl Name {
         Ok(Name { bytes: folded })
     }
 
-    /// What stands in the place of a name that may not be found: no bytes, so that no name is the same. It takes no memory.
+    /// What stands in the place of a name that may not be found: no bytes, so that no name is the same. It takes no
+    /// memory.
     pub fn hidden(alloc: Global) -> Name
         ensures { result ≡ [] }
     {

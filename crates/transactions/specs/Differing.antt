@@ -8,7 +8,8 @@ use Rattle.table_state.specs.declared.refusal.ApplyError.TheVariants as error
 
 -- each foreign key refers to a table before its own
 abbrev pub RefersBack : List TableDef → Type 0
-RefersBack schema = (t : ℕ) (def : TableDef) (foreign : ForeignKey) → slice_get schema t ≡ Some def → def.foreign_key ≡ Some foreign → foreign.parent.0 < t
+RefersBack schema = (t : ℕ) (def : TableDef) (foreign : ForeignKey) → slice_get schema t ≡ Some def
+    → def.foreign_key ≡ Some foreign → foreign.parent.0 < t
 
 -- the row at a key isn't the one that the operation names
 abbrev pub is_difference : Option ApplyError → Bool

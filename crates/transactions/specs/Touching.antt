@@ -17,7 +17,8 @@ is_child (Some def) = is_some def.foreign_key
 
 -- the operation's table is one that is written, or has a foreign key
 abbrev pub is_touched : List Change → TableState → Op → Bool
-is_touched changes s op = list_any (λ change. is_of change.table op) changes || is_child (slice_get s.schema (table_of op).0)
+is_touched changes s op = list_any (λ change. is_of change.table op) changes
+    || is_child (slice_get s.schema (table_of op).0)
 
 -- so it is of each operation
 abbrev pub Touches : List Change → TableState → List Op → Type 0

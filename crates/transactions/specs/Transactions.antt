@@ -32,7 +32,12 @@ rows_in t ops = count_by (is_of t) ops
 -- a state is left where none of the operations breaks a rule
 abbrev pub left_by : Change → TableState → List Op → Option ApplyError → Result Done ApplyError
 left_by change s ops (Some broken) = Err broken
-left_by change s ops None = Ok (record { written = record { ops = ops; rows = rows_in change.table ops }; state = unwrap_or (applied_all ops s) s })
+left_by change s ops None =
+    Ok (record {
+      written = record { ops = ops; rows = rows_in change.table ops };
+      state =
+          unwrap_or (applied_all ops s) s;
+    })
 
 -- the operations of the write are applied one after the other; the first rule that one of them breaks is told
 abbrev pub applied_to : Change → TableState → Result (List Op) Rule → Result Done ApplyError
@@ -64,7 +69,8 @@ and_then f (Ok done) = f done
 abbrev pub written_in : ℕ → List Change → TableState → Result Done ApplyError
 written_in room [] s = Ok (record { written = nothing; state = s })
 written_in room (change ∷ changes) s =
-    and_then (λ first. behind first.written (written_in (room - length first.written.ops) changes first.state)) (written_by room change s)
+    and_then (λ first. behind first.written (written_in (room - length first.written.ops) changes first.state))
+    (written_by room change s)
 
 -- the writes of a transaction
 abbrev pub written_by_all : List Change → TableState → Result Done ApplyError

@@ -23,7 +23,8 @@ pub(crate) fn first_child<S: Scan>(
 ) -> Result<Option<Detail>, AllocError>
     requires whole { IsWhole (S.state scan.now) }
     requires keyed { IsKeyed (S.state scan.now) }
-    ensures { IfOk result (λ child. child ≡ first_child table key.now (S.state scan.now).schema (S.state scan.now).tables) }
+    ensures { IfOk result (λ child. child ≡ first_child table key.now (S.state scan.now).schema
+        (S.state scan.now).tables) }
 {
     for place in 0..scan.schema().len() {
         match child_at(alloc, scan, table, key, place)? {
@@ -45,7 +46,10 @@ fn child_at<S: Scan>(
     requires whole { IsWhole (S.state scan.now) }
     requires keyed { IsKeyed (S.state scan.now) }
     requires within { place < length (S.state scan.now).schema }
-    ensures { IfOk result (λ child. first_child table key.now (drop place (S.state scan.now).schema) (drop place (S.state scan.now).tables) ≡ option_or child (first_child table key.now (drop (place + 1) (S.state scan.now).schema) (drop (place + 1) (S.state scan.now).tables))) }
+    ensures { IfOk result (λ child. first_child table key.now (drop place (S.state scan.now).schema)
+        (drop place (S.state scan.now).tables)
+        ≡ option_or child (first_child table key.now (drop (place + 1) (S.state scan.now).schema)
+        (drop (place + 1) (S.state scan.now).tables))) }
 {
     if place >= 4_294_967_296 {
         return Err(AllocError);

@@ -45,9 +45,9 @@ pub fn judge_insert<S: Scan>(
 /// Whether a row can become another, without changing it.
 ///
 /// `ApplyError::Rule` tells the first rule that the operation breaks, as `Tables::apply_all` does: 102 without the
-/// table; 118 of a primary key that changes; 104, 105 and 106 of a new row that doesn't fit; 108 without its parent. 107
-/// can't come. `ApplyError::Differs` tells that the old row isn't there, and what is. `ApplyError::Memory` may come at any
-/// time.
+/// table; 118 of a primary key that changes; 104, 105 and 106 of a new row that doesn't fit; 108 without its parent.
+/// 107 can't come. `ApplyError::Differs` tells that the old row isn't there, and what is. `ApplyError::Memory` may come
+/// at any time.
 pub fn judge_update<S: Scan>(
     alloc: Global,
     table: TableId,
@@ -67,8 +67,8 @@ pub fn judge_update<S: Scan>(
 /// Whether a row can be deleted, without deleting it. Rows that refer to it aren't thought away.
 ///
 /// `ApplyError::Rule` tells the first rule that the operation breaks, as `Tables::apply_all` does: 102 without the
-/// table; 109 of a row with a child, with the child of the least key in the first such table. `ApplyError::Differs` tells
-/// that the row isn't there, and what is. `ApplyError::Memory` may come at any time.
+/// table; 109 of a row with a child, with the child of the least key in the first such table. `ApplyError::Differs`
+/// tells that the row isn't there, and what is. `ApplyError::Memory` may come at any time.
 pub fn judge_delete<S: Scan>(
     alloc: Global,
     table: TableId,
@@ -113,7 +113,8 @@ fn check_new<S: Scan>(
     def: &TableDef,
     key: &Key,
 ) -> Result<(), ApplyError>
-    ensures { Judges result (if map.contains_key (table_at (S.state scan.now) table) key.now then refused code.KeyExists (detail.Row def.now.name key.now) else None) }
+    ensures { Judges result (if map.contains_key (table_at (S.state scan.now) table) key.now then refused code.KeyExists
+        (detail.Row def.now.name key.now) else None) }
 {
     match scan.find(table, key) {
         None => Ok(()),
@@ -173,7 +174,8 @@ fn check_update<S: Scan>(
     old: &Row,
     new: &Row,
 ) -> Result<(), ApplyError>
-    ensures { Judges result (update_fault (S.state scan.now) table old.now new.now def.now (table_at (S.state scan.now) table)) }
+    ensures { Judges result (update_fault (S.state scan.now) table old.now new.now def.now
+        (table_at (S.state scan.now) table)) }
 {
     check_key_stays(alloc, def, old, new)?;
     check_row(alloc, def.columns.as_slice(), new)?;
@@ -191,7 +193,8 @@ fn check_delete<S: Scan>(
 ) -> Result<(), ApplyError>
     requires whole { IsWhole (S.state scan.now) }
     requires keyed { IsKeyed (S.state scan.now) }
-    ensures { Judges result (delete_fault (S.state scan.now) table old.now def.now (table_at (S.state scan.now) table)) }
+    ensures { Judges result (delete_fault (S.state scan.now) table old.now def.now
+        (table_at (S.state scan.now) table)) }
 {
     let key = key_of_row(alloc, def, old)?;
     check_there(alloc, scan, table, &key, old)?;
@@ -205,7 +208,9 @@ fn check_there<S: Scan>(
     key: &Key,
     row: &Row,
 ) -> Result<(), ApplyError>
-    ensures { Judges result (if is_found row.now (map.get (table_at (S.state scan.now) table) key.now) then None else Some (error.Differs table key.now (map.get (table_at (S.state scan.now) table) key.now))) }
+    ensures { Judges result (if is_found row.now
+        (map.get (table_at (S.state scan.now) table) key.now) then None else Some
+        (error.Differs table key.now (map.get (table_at (S.state scan.now) table) key.now))) }
 {
     match scan.find(table, key) {
         None => {

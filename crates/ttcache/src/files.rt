@@ -16,15 +16,15 @@ const DATABASE: &str = "ttcache.db";
 /// Why there is no site.
 #[derive(Clone, Copy, Debug, PartialEq, Eq)]
 pub enum SiteError {
-    /// The file of this name can't be opened: another program holds it, or it isn't one of these, or the operating system
-    /// refuses it.
+    /// The file of this name can't be opened: another program holds it, or it isn't one of these, or the operating
+    /// system refuses it.
     Unopened(&'static str),
     /// Memory was wanting.
     Memory,
 }
 
-/// The journal's disk and the backing database in the working folder, as one site. Files that are missing are made: slots
-/// that were never used, and a database with an empty history.
+/// The journal's disk and the backing database in the working folder, as one site. Files that are missing are made:
+/// slots that were never used, and a database with an empty history.
 pub fn open_site(rt: &HostRuntime) -> Result<RealSite<FileDisk>, SiteError> {
     let Ok(disk) = FileDisk::open(rt, ".", FIRST_SLOT, SECOND_SLOT) else {
         return Err(SiteError::Unopened(unopened_slot(rt)));

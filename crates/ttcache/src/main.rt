@@ -4,10 +4,11 @@
 //! each line whether it is spelt right. `ttcache make N` writes the generated script of a number, and `ttcache bench N`
 //! runs that script on a new site in memory and writes what its run comes to.
 //!
-//! `run` works on files in the working folder: the journal's slots `ttcache.j0` and `ttcache.j1`, and the backing database
-//! `ttcache.db`. It ends with the status that `session_cli::top` answers, or with 11 where a file can't be opened or the
-//! settings can't be read. Of each status other than 0 it says on standard error in one line what happened. As `import`
-//! reads and as `bench` runs, a line there counts bytes or lines, where standard error is a terminal.
+//! `run` works on files in the working folder: the journal's slots `ttcache.j0` and `ttcache.j1`, and the backing
+//! database
+//! `ttcache.db`. It ends with the status that `session_cli::top` answers, or with 11 where a file can't be opened or
+//! the settings can't be read. Of each status other than 0 it says on standard error in one line what happened. As
+//! `import` reads and as `bench` runs, a line there counts bytes or lines, where standard error is a terminal.
 #![tactic(auto)]
 
 mod files;
@@ -103,8 +104,8 @@ fn settings(rt: &HostRuntime) -> Option<Vec<u8>> {
     }
 }
 
-// Calls the program with the words that it was called with, over the site that they want. The error is the name of a file
-// that can't be opened.
+// Calls the program with the words that it was called with, over the site that they want. The error is the name of a
+// file that can't be opened.
 fn run(rt: &HostRuntime, settings: &[u8]) -> Result<u8, &'static str> {
     let args = match env::args(rt) {
         Ok(args) => args,
@@ -165,8 +166,8 @@ fn call<P: Site>(rt: &HostRuntime, words: &[&str], settings: &[u8], site: &mut P
     status
 }
 
-// Calls the program over any objects. Its contract is long, and this passes none of it on: so the caller, which has streams
-// of known types, is proved without it.
+// Calls the program over any objects. Its contract is long, and this passes none of it on: so the caller, which has
+// streams of known types, is proved without it.
 fn call_over<'a, S: Source, K: Sink, P: Site, C: Clock, G: Progress>(
     alloc: Global,
     words: &'a [&'a str],

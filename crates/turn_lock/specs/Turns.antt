@@ -1,5 +1,6 @@
 -- The rule of the table behind the lock, and what each step on it tells. This project's rule, that of a ticket lock.
--- Word 0 is the next turn to be drawn, and word 1 the turn that is served. The one slot holds the value while nobody has it.
+-- Word 0 is the next turn to be drawn, and word 1 the turn that is served. The one slot holds the value while nobody
+-- has it.
 use Rattle.std.specs.Prelude.{◌≡◌, ◌≢◌, ◌⊎◌, ℕ, ◌+◌, ◌-◌, ◌<◌, ◌≤◌, List, [], ◌∷◌, ◌++◌, Option, Some, None}
 use mathlib.Core.Option.{some, none}
 use mathlib.Core.Option as maybe
@@ -71,7 +72,8 @@ module _ {E : Type 0} where
     pub empty : v.parts ≡ 0 → (v.given ≡ []) × (v.stage ≡ Idle)
 
 module _ {V E : Type 0} where
-  -- the value lies in the slot and stores the list, or it is out with the seat whose turn is served, which found the list
+  -- the value lies in the slot and stores the list, or it is out with the seat whose turn is served, which found the
+  -- list
   abbrev pub IsHomeOrHeld : (V → List E) → List E → ℕ → List (maybe.Option (Option V)) → List (View E) → Type 0
   IsHomeOrHeld list log served homes views =
       ((x : V) × (homes ≡ some (Some x) ∷ []) × (list x ≡ log))
@@ -80,7 +82,8 @@ module _ {V E : Type 0} where
   -- The rule. `log` is the list that the value stores, as of the last turn given back. It begins with the opening list,
   -- each view fits it, no two views have one turn, each place past the opening list was given by one view, once,
   -- no other place was given, and no part is lost.
-  pub record KeepsTurns (list : V → List E) (opening : List E) (seats : ℕ) (s : State (Option V) (View E)) : Type 0 where
+  pub record KeepsTurns (list : V → List E) (opening : List E) (seats : ℕ)
+      (s : State (Option V) (View E)) : Type 0 where
     pub next : ℕ
     pub served : ℕ
     pub log : List E
@@ -90,19 +93,24 @@ module _ {V E : Type 0} where
     pub begins : IsPrefix opening log
     pub home_or_held : IsHomeOrHeld list log served s.homes s.views
     pub fits : (j : ℕ) (v : View E) → get_elem? s.views j ≡ some v → Fits log served next v
-    pub apart : (i j : ℕ) (v w : View E) (t : ℕ) → get_elem? s.views i ≡ some v → get_elem? s.views j ≡ some w → turn_of v.stage ≡ Some t → turn_of w.stage ≡ Some t → i ≡ j
-    pub given_once : (k : ℕ) → total (λ (v : View E). occurrences k v.given) s.views ≡ occurrences k (new_places opening log)
+    pub apart : (i j : ℕ) (v w : View E) (t : ℕ) → get_elem? s.views i ≡ some v → get_elem? s.views j ≡ some w
+        → turn_of v.stage ≡ Some t → turn_of w.stage ≡ Some t → i ≡ j
+    pub given_once : (k : ℕ)
+        → total (λ (v : View E). occurrences k v.given) s.views ≡ occurrences k (new_places opening log)
     pub parts : total (λ (v : View E). v.parts) s.views ≡ seats
 
   -- Drawing tells: where word 0 was the number expected, that turn is the seat's, and else nothing changed.
   abbrev pub Draws : Step (Option V) → Me (Option V) (View E) → ℕ → Me (Option V) (View E) → Type 0
   Draws st m n m' = (m'.1 ≡ m.1) × (n ≡ st.first → m'.0 ≡ waiting m.0 n) × (n ≢ st.first → m'.0 ≡ m.0)
 
-  -- Looking tells a seat that waits: where its turn is served it took the value, which begins with all that the seat knows, and else nothing changed.
+  -- Looking tells a seat that waits: where its turn is served it took the value, which begins with all that the seat
+  -- knows, and else nothing changed.
   abbrev pub Looks : (V → List E) → Step (Option V) → Me (Option V) (View E) → ℕ → Me (Option V) (View E) → Type 0
   Looks list st m n m' = (t : ℕ) → m.0.stage ≡ Waits t
-      → (n ≡ t → (x : V) × (m'.0 ≡ holding m.0 t (list x)) × (m'.1 ≡ (0, Some x) ∷ m.1) × IsPrefix m.0.seen (list x) × AllBegin m.0.told (list x)) × (n ≢ t → m' ≡ m)
+      → (n ≡ t → (x : V) × (m'.0 ≡ holding m.0 t (list x)) × (m'.1 ≡ (0, Some x) ∷ m.1) × IsPrefix m.0.seen (list x)
+      × AllBegin m.0.told (list x)) × (n ≢ t → m' ≡ m)
 
   -- Advancing tells the holder: the value is back in the slot, and the places that its list gained are the seat's.
   abbrev pub Advances : (V → List E) → Step (Option V) → Me (Option V) (View E) → ℕ → Me (Option V) (View E) → Type 0
-  Advances list st m n m' = (t : ℕ) (l : List E) (y : V) → m.0.stage ≡ Holds t l → m.1 ≡ (0, Some y) ∷ [] → (m'.1 ≡ []) × (m'.0 ≡ after_giving m.0 l (list y))
+  Advances list st m n m' = (t : ℕ) (l : List E) (y : V) → m.0.stage ≡ Holds t l → m.1 ≡ (0, Some y) ∷ []
+      → (m'.1 ≡ []) × (m'.0 ≡ after_giving m.0 l (list y))

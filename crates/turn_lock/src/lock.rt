@@ -190,8 +190,10 @@ impl<V: Grows> TurnLock<V> {
         ensures told { All (λ p. AllBegin (pass_told p) (V.list result)) passes.items }
 
         // Each place past the opening list was given by the passes, all together, once, and no other place was.
-        ensures given { (k : ℕ) → times_given k passes.items ≡ occurrences k (new_places (V.list (lock_opening self)) (V.list result)) }
-        ensures once { (k : ℕ) → length (V.list (lock_opening self)) ≤ k → k < length (V.list result) → times_given k passes.items ≡ 1 }
+        ensures given { (k : ℕ) → times_given k passes.items
+            ≡ occurrences k (new_places (V.list (lock_opening self)) (V.list result)) }
+        ensures once { (k : ℕ) → length (V.list (lock_opening self)) ≤ k → k < length (V.list result)
+            → times_given k passes.items ≡ 1 }
     {
         let Some(mut first) = passes.pop() else {
             unreachable!()
@@ -206,7 +208,8 @@ impl<V: Grows> TurnLock<V> {
         requires seats { 0 < about.now.seats }
         ensures about { IfOk result (λ r. r.0.table.shared.key ≡ about.now) }
         ensures pass { IfOk result (λ r. (pass_lock r.1 ≡ lock_id r.0) × (pass_parts r.1 ≡ about.now.seats)) }
-        ensures seen { IfOk result (λ r. (pass_seen r.1 ≡ V.list value) × (pass_told r.1 ≡ []) × (pass_given r.1 ≡ [])) }
+        ensures seen { IfOk result (λ r. (pass_seen r.1 ≡ V.list value) × (pass_told r.1 ≡ [])
+            × (pass_given r.1 ≡ [])) }
         ensures err { IfErr result (λ v. v ≡ value) }
     {
         let mut slots = Vec::new(alloc);
@@ -276,7 +279,8 @@ impl<V: Grows> TurnLock<V> {
         requires seat { (seat.old.table_id ≡ self.now.table.shared.table_id) × (seat.old.me.1 ≡ []) }
         requires waits { seat.old.me.0.stage ≡ Waits turn }
         ensures same { seat.new.table_id ≡ seat.old.table_id }
-        ensures took { (x : V) × (seat.new.me ≡ (holding seat.old.me.0 turn (V.list x), (0, Some x) ∷ [])) × IsPrefix seat.old.me.0.seen (V.list x) × AllBegin seat.old.me.0.told (V.list x) }
+        ensures took { (x : V) × (seat.new.me ≡ (holding seat.old.me.0 turn (V.list x), (0, Some x) ∷ []))
+            × IsPrefix seat.old.me.0.seen (V.list x) × AllBegin seat.old.me.0.told (V.list x) }
     {
         for _ in rt.forever() {
             if self.table.shared.load::<Look>(seat, 1) == turn {
@@ -307,7 +311,8 @@ impl<V: Grows> TurnLock<V> {
         requires served { seat.me.0.stage ≡ Holds (number_of seat.me.0.stage) (found_of seat.me.0.stage) }
         requires full { (x : V) × (seat.me.1 ≡ (0, Some x) ∷ []) × IsPrefix (found_of seat.me.0.stage) (V.list x) }
         ensures lock { result.table_id ≡ seat.table_id }
-        ensures given { (x : V) → seat.me.1 ≡ (0, Some x) ∷ [] → result.me ≡ (after_giving seat.me.0 (found_of seat.me.0.stage) (V.list x), []) }
+        ensures given { (x : V) → seat.me.1 ≡ (0, Some x) ∷ []
+            → result.me ≡ (after_giving seat.me.0 (found_of seat.me.0.stage) (V.list x), []) }
     {
         self.table.shared.fetch_add::<Advance>(&mut seat, 1, 1);
         seat
@@ -319,8 +324,11 @@ impl<V: Grows> TurnLock<V> {
         requires others { All (λ p. pass_lock p ≡ lock_id self.now) others.items }
         ensures same { (pass_lock pass.new ≡ pass_lock pass.old) × (pass_seen pass.new ≡ pass_seen pass.old) }
         ensures parts { pass_parts pass.new ≡ pass_parts pass.old + total_parts others.items }
-        ensures told { (l : List V.Item) → AllBegin (pass_told pass.new) l → AllBegin (pass_told pass.old) l × All (λ p. IsPrefix (pass_seen p) l × AllBegin (pass_told p) l) others.items }
-        ensures given { (k : ℕ) → occurrences k (pass_given pass.new) ≡ occurrences k (pass_given pass.old) + times_given k others.items }
+        ensures told { (l : List V.Item) → AllBegin (pass_told pass.new) l
+            → AllBegin (pass_told pass.old) l
+            × All (λ p. IsPrefix (pass_seen p) l × AllBegin (pass_told p) l) others.items }
+        ensures given { (k : ℕ) → occurrences k (pass_given pass.new)
+            ≡ occurrences k (pass_given pass.old) + times_given k others.items }
     {
         while let Some(other) = others.pop() {
             self.join(pass, other);
@@ -335,7 +343,8 @@ impl<V: Grows> TurnLock<V> {
         ensures begins { IsPrefix (V.list (lock_opening self)) (V.list result) }
         ensures seen { IsPrefix (pass_seen pass) (V.list result) }
         ensures told { AllBegin (pass_told pass) (V.list result) }
-        ensures given { (k : ℕ) → occurrences k (pass_given pass) ≡ occurrences k (new_places (V.list (lock_opening self)) (V.list result)) }
+        ensures given { (k : ℕ) → occurrences k (pass_given pass)
+            ≡ occurrences k (new_places (V.list (lock_opening self)) (V.list result)) }
     {
         let mut closed = self.table.close_with(pass.seat);
         let value = closed.take(0).unwrap();
