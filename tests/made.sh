@@ -38,6 +38,15 @@ printf '\n\r\n# a comment\r\n\n#' >silent
 : >empty
 drill no_input '! note Nothing comes.' empty 0 "$nothing"
 
+# A line that is one chain of 8,001 terms.
+{
+  printf '%s\n' "$table" 's1: OPEN' "$group"
+  printf 's1: SELECT * FROM A WHERE 1=1'
+  printf ' AND 1=1%.0s' $(seq 8000)
+  printf '\n'
+} >chain
+drill one_chain '! note One chain.' chain 0 $'ok 0\nok 0\nok 0\nok 0\n-- history\n1 definition of A\n-- tables\nA'
+
 # The generated script of a number, by the shell's own numbers of 64 bits. The upper 31 bits of a state are drawn from.
 generated() {
   local x=$1 kind key i

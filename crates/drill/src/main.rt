@@ -25,17 +25,30 @@ use stage::Stage;
 use std::alloc::Global;
 use std::io::{Read, Write};
 use std::process::ExitCode;
+use std::thread::Builder;
 use telling::tell_all;
 
 /// The status where nothing was run.
 const NOT_RUN: u8 = 99;
 
+/// The bytes of the stack that the drill runs on: what goes through the tree of a line that is one chain goes deep.
+const STACK_BYTES: usize = 268_435_456;
+
 fn main(rt: HostRuntime) -> ExitCode {
-    match run(&rt) {
-        Ok(status) => ExitCode::from(status),
+    let thread = Builder::new().stack_size(STACK_BYTES);
+    let status = match thread.spawn(&rt, move || status(&rt)) {
+        Ok(running) => running.join(&rt),
+        Err(_) => status(&rt),
+    };
+    ExitCode::from(status)
+}
+
+fn status(rt: &HostRuntime) -> u8 {
+    match run(rt) {
+        Ok(status) => status,
         Err(error) => {
             let _ = eprintln!(rt; "drill: {error}");
-            ExitCode::from(NOT_RUN)
+            NOT_RUN
         }
     }
 }

@@ -15,6 +15,7 @@ pub mod DropLocks
 pub mod DroppingLaws
 pub mod Exchanged
 pub mod FillLaws
+pub mod FittingRows
 pub mod FlagLaws
 pub mod FlaggedLaws
 pub mod ChangedLists
@@ -32,6 +33,7 @@ pub mod LoadLaws
 pub mod LoadingLaws
 pub mod MatchLaws
 pub mod MatchedRoots
+pub mod NamedKeys
 pub mod NotedLaws
 pub mod PutKeys
 pub mod ReadLaws

@@ -1,13 +1,15 @@
 -- The root rows of a store that match, and their keys.
-use Rattle.std.proofs.Common.{◌≡◌, ℕ, suc, Bool, true, false, cond, ◌&&◌, Option, Some, List, [], ◌∷◌, filter, length, map, slice_get, refl, sym, ap, ◌∙◌}
+use Rattle.std.proofs.Common.{◌≡◌, ℕ, suc, Bool, true, false, cond, ◌&&◌, Option, Some, None, is_none, List, [], ◌∷◌, filter, length, map, slice_get, refl, sym, ap, ◌∙◌}
 use Rattle.std.proofs.lemmas.List.{length-map}
 use Rattle.std.specs.FinMap as fm
 use Rattle.row_types.specs.declared.value.Value.{Value}
 use Rattle.tier_base.specs.declared.code.Code.TheVariants as code
+use Rattle.expressions.specs.declared.condition.Cond.{Cond}
 use Rattle.indexed_rows.specs.Rows.{Table, key_of}
 use Rattle.evaluator.specs.Writes.{selects}
 use Rattle.instances.specs.Views.{is_true, kept_at, passes, rows_where}
 use Rattle.instances.proofs.Gathering.{entry_found}
+use Rattle.session_state.proofs.ApartLaws.{any_false}
 use Rattle.group_catalog.specs.declared.which.ResolvedWhich.{ResolvedWhich}
 use Rattle.group_store.specs.Stores.{Kept}
 use Rattle.cache_tier.specs.Conditions.{is_id, matches, overflow_fault, overflows}
@@ -56,7 +58,7 @@ keys_listed key m (e ∷ es) keyed =
     by true rest = λ i. keyed 0 e refl i ∷ rest i
     by false rest = rest
 
-leaving_keys : (which : ResolvedWhich) (columns : List ℕ) (S : Table) → ((k r : Row) → fm.get S k ≡ Some r → key_of columns r ≡ k) → leaving which columns S ≡ fm.keys (chosen (matches_at which) S)
+pub leaving_keys : (which : ResolvedWhich) (columns : List ℕ) (S : Table) → ((k r : Row) → fm.get S k ≡ Some r → key_of columns r ≡ k) → leaving which columns S ≡ fm.keys (chosen (matches_at which) S)
 leaving_keys which columns S keyed =
     keys_listed (key_of columns) (matches_at which) (fm.entries S) (λ i e at. keyed e.0 e.1 (entry_found S i e at))
     ∙ ap (map (λ (e : Row × Row). e.0)) (sym (entries_chosen (matches_at which) S))
@@ -91,3 +93,8 @@ pub fits_is : (t : Stored) (w : World) → IsSound t → StandsFor t w → (x : 
 fits_is t w sound stands x place which at of store kept =
     ap (overflow_fault x.filter) (sym (roots_are t w sound stands place x.group at store kept))
     ∙ ap (λ f. broken_if (overflows f (kept_at store.tables 0)) (plain code.Overflow)) (sym of.filter)
+
+-- where there is no condition it is 120 on none
+pub none_past : (filter : Option Cond) (rows : Table) → is_none filter ≡ true → overflows filter rows ≡ false
+none_past None rows none = any_false (λ row. is_none (selects None row)) (fm.values rows) (λ row. refl)
+none_past (Some condition) rows none = cc

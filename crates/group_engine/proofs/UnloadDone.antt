@@ -63,6 +63,9 @@ use Rattle.cache_tier.proofs.LoadLaws.{unload_keys}
 use Rattle.aging_cycles.specs.Running.{cut_all}
 use Rattle.group_engine.specs.Unloading.{AimsUnloadIn, FindsUnload, IsClearedAt, IsClearedGroup, IsCutBy, IsCutAt, IsCutGroup, LeavesGroup, UnloadsHere, UnloadsReady, UnloadsTarget, flagged, leaving}
 use Rattle.group_engine.specs.UnloadLocks.{UnloadTold}
+use Rattle.group_engine.specs.UnloadNamed.{FitsFor, FitsUnder}
+use Rattle.group_engine.proofs.FittingRows.{shown_fits}
+use Rattle.group_engine.proofs.NamedKeys.{HasCut, cut_widened, has_cut}
 use Rattle.group_engine.specs.declared.ready.Ready.{Ready}
 use Rattle.group_engine.specs.Ready.{AnswersBehind, is_full_ready}
 use Rattle.group_engine.proofs.ReadyLaws.{full_then}
@@ -202,9 +205,8 @@ left_listed t new place all does c a p same f sound is one =
 
 pub sound_cut : (t new : Stored) (aim : Aim) (all : Bool) (n : ℕ) → IsSound t → IsCutGroup t new aim all n → IsSound new
 sound_cut t new aim all n sound cut =
-    let keys = leaving aim.which (primary_of t.schema cut.group.def.tree.root.table) (kept_at cut.store.tables 0) in
-    sound_left t new aim.place all _ sound cut (left_tree keys cut.store cut.left cut.did.gone)
-    (ap (λ (ts : List Table). length ts) cut.did.gone.tables ∙ cut_long keys cut.store)
+    sound_left t new aim.place all _ sound cut (left_tree cut.did.keys cut.store cut.left cut.did.gone)
+    (ap (λ (ts : List Table). length ts) cut.did.gone.tables ∙ cut_long cut.did.keys cut.store)
 
 abbrev pub UnloadLaw : Type 0
 UnloadLaw =
@@ -216,13 +218,17 @@ module _ (law : UnloadLaw) (drops : (state : TableState) (tree : Tree) → Keeps
   same_group : cut.group ≡ without_list x.group
   same_group = let both : Some cut.group ≡ Some (without_list x.group) = sym cut.there ∙ group_stored t w.tier aim.place x.group stands.stored at in cc
 
+  -- what is stored fits, so that those left that match
+  did : HasCut aim.which (primary_of t.schema x.group.def.tree.root.table) cut.store cut.left n
+  did = has_cut (FitsFor t.schema x.group.def.tree.root.table) aim.which (primary_of t.schema x.group.def.tree.root.table) cut.store cut.left n
+      (subst (λ (g : Group). IsCutBy (FitsFor t.schema g.def.tree.root.table) aim.which (primary_of t.schema g.def.tree.root.table) cut.store cut.left n) same_group cut.did)
+      (shown_fits t w stands aim.place x.group at sound cut.store cut.kept)
+
   gone : SameButSpare (cut_all (leaving aim.which (primary_of t.schema x.group.def.tree.root.table) (kept_at cut.store.tables 0)) cut.store) cut.left
-  gone = subst (λ (g : Group). SameButSpare (cut_all (leaving aim.which (primary_of t.schema g.def.tree.root.table) (kept_at cut.store.tables 0)) cut.store) cut.left) same_group cut.did.gone
+  gone = did.gone
 
   count : n ≡ fm.len (matching_shown w x)
-  count =
-      cut.did.count ∙ ap (λ (g : Group). length (leaving aim.which (primary_of t.schema g.def.tree.root.table) (kept_at cut.store.tables 0))) same_group
-      ∙ count_is t w sound stands aim.place x.group at writes cut.store cut.kept x aim.which refl of
+  count = did.count ∙ count_is t w sound stands aim.place x.group at writes cut.store cut.kept x aim.which refl of
 
   unloadable : IsUnloadable w s x
   unloadable = record {
@@ -416,7 +422,7 @@ group_cleared t mid new place n seen at whole cleared same then groups = record 
 }
 
 pub group_cut : (t mid new : Stored) (aim : Aim) (all : Bool) (n : ℕ) (seen : Group) (def : TableDef) (columns : List ℕ) → slice_get (groups_in t.catalog) aim.place ≡ Some seen → hides_keys seen ≡ false → slice_get t.schema seen.def.tree.root.table.0 ≡ Some def → columns ≡ def.primary_key
-    → IsCutAt aim.place columns aim.which t.stores.items mid.stores.items n → mid ≡ record t { stores = mid.stores } → new ≡ record mid { catalog = new.catalog; verified = false } → groups_in new.catalog ≡ flagged all aim.place (groups_in mid.catalog) → IsCutGroup t new aim all n
+    → IsCutAt (FitsUnder def) aim.place columns aim.which t.stores.items mid.stores.items n → mid ≡ record t { stores = mid.stores } → new ≡ record mid { catalog = new.catalog; verified = false } → groups_in new.catalog ≡ flagged all aim.place (groups_in mid.catalog) → IsCutGroup t new aim all n
 group_cut t mid new aim all n seen def columns at hides defined are cut same then groups =
     let its : columns ≡ primary_of t.schema seen.def.tree.root.table = are ∙ sym (ap (λ o. unwrap_or (option_map (λ (d : TableDef). d.primary_key) o) []) defined) in
     record {
@@ -426,7 +432,7 @@ group_cut t mid new aim all n seen def columns at hides defined are cut same the
       there = at;
       kept = cut.kept;
       hides = hides;
-      did = subst (λ cs. IsCutBy aim.which cs cut.store cut.left n) its cut.cut;
+      did = subst (λ cs. IsCutBy (FitsFor t.schema seen.def.tree.root.table) aim.which cs cut.store cut.left n) its (cut_widened t.schema seen.def.tree.root.table def aim.which columns cut.store cut.left n defined cut.cut);
       stores = ap (λ (y : Stored). y.stores.items) then ∙ cut.is;
       groups = groups ∙ ap (λ (y : Stored). flagged all aim.place (groups_in y.catalog)) same;
       beside = record {

@@ -78,6 +78,9 @@ use Rattle.group_engine.specs.Taking.{IsOfTarget}
 use Rattle.group_engine.specs.Unloading.{UnloadsReady, leaving}
 use Rattle.group_engine.specs.UnloadHidden.{AreCutAt, AreCutBy, AreOut, IsCutHiding, hides_some, without_rows}
 use Rattle.group_engine.specs.UnloadLocks.{FitsIn}
+use Rattle.group_engine.specs.UnloadNamed.{FitsFor, FitsUnder}
+use Rattle.group_engine.proofs.FittingRows.{hidden_fits, shown_fits}
+use Rattle.group_engine.proofs.NamedKeys.{HasCut, cut_widened, has_cut}
 use Rattle.group_engine.proofs.ChangedLists.{changed_at, changed_long}
 use Rattle.group_engine.proofs.DropLocks.{group_stored}
 use Rattle.group_engine.proofs.FlagLaws.{flagged_seen}
@@ -360,12 +363,12 @@ cut_few (k ∷ ks) s =
     Prim.omega (arith, rest, one, same)
 
 module _ (t : Stored) (stores : Vec Kept) (hid : Vec RowsHeld) (aim : Aim) (n : ℕ) (sound : IsSound t) (group : Group) (seen : slice_get (groups_in t.catalog) aim.place ≡ Some group) (hides_some_rows : hides_keys group ≡ true)
-    (cut : AreCutAt aim.place (primary_of t.schema group.def.tree.root.table) aim.which t.stores.items t.hidden.items stores.items hid.items n) where
+    (cut : AreCutAt (FitsFor t.schema group.def.tree.root.table) aim.place (primary_of t.schema group.def.tree.root.table) aim.which t.stores.items t.hidden.items stores.items hid.items n) where
   abbrev pub behind_it : Stored
   behind_it = record t { stores = stores; hidden = hid; verified = false }
 
   abbrev leave : List Row
-  leave = leaving aim.which (primary_of t.schema group.def.tree.root.table) (kept_at cut.store.tables 0)
+  leave = cut.cut.cut.keys
 
   pub tree_left : SameTree cut.store cut.left
   tree_left = left_tree leave cut.store cut.left cut.cut.cut.gone
@@ -429,14 +432,14 @@ module _ (t : Stored) (stores : Vec Kept) (hid : Vec RowsHeld) (aim : Aim) (n : 
   pub hides_behind : (w : World) → HidesRows t w.history → HidesRows (record t { stores = stores; hidden = hid; verified = false }) w.history
   hides_behind w hides k g h at so held = elim (set_at t.hidden.items aim.place k cut.before cut.behind h cut.held (sym (ap (λ (xs : List RowsHeld). slice_get xs k) cut.rows) ∙ held)) [
     | inl here ↦ (λ key row found. hides k g cut.before at so (ap (slice_get t.hidden.items) (eqb-true k aim.place here.0) ∙ cut.held) key row
-        (row_was (leaving aim.which (primary_of t.schema group.def.tree.root.table) cut.before.table) cut.before.table key row
+        (row_was cut.cut.others cut.before.table key row
         (ap (λ (m : Table). fm.get m key) (sym cut.cut.out.rows) ∙ ap (λ (y : RowsHeld). fm.get y.table key) here.1 ∙ found)))
     | inr other ↦ hides k g h at so other.1
   ]
 
 -- what is shown, and stands, behind it
 module _ (drops : Drops) (t : Stored) (stores : Vec Kept) (hid : Vec RowsHeld) (aim : Aim) (n : ℕ) (sound : IsSound t) (w : World) (x : Target) (stands : StandsFor t w) (at : slice_get w.tier.groups aim.place ≡ Some x.group) (of : IsOfTarget x aim.place aim.which) (h : Hides (without_list x.group)) (all : Bool)
-    (cut : AreCutAt aim.place (primary_of t.schema x.group.def.tree.root.table) aim.which t.stores.items t.hidden.items stores.items hid.items n) where
+    (cut : AreCutAt (FitsFor t.schema x.group.def.tree.root.table) aim.place (primary_of t.schema x.group.def.tree.root.table) aim.which t.stores.items t.hidden.items stores.items hid.items n) where
   abbrev N : Stored
   N = record t { stores = stores; hidden = hid; verified = false }
 
@@ -455,20 +458,30 @@ module _ (drops : Drops) (t : Stored) (stores : Vec Kept) (hid : Vec RowsHeld) (
   seen_at : slice_get (groups_in t.catalog) aim.place ≡ Some (without_list x.group)
   seen_at = group_stored t w.tier aim.place x.group stands.stored at
 
+  -- what is stored fits, so that those left that match
+  did : HasCut aim.which (primary_of t.schema x.group.def.tree.root.table) cut.store cut.left n
+  did = has_cut (FitsFor t.schema x.group.def.tree.root.table) aim.which (primary_of t.schema x.group.def.tree.root.table) cut.store cut.left n cut.cut.cut
+      (shown_fits t w stands aim.place x.group at sound cut.store cut.kept)
+
+  rows_left : cut.behind.table ≡ without_rows (leaving aim.which (primary_of t.schema x.group.def.tree.root.table) cut.before.table) cut.before.table
+  rows_left = cut.cut.out.rows ∙ ap (λ (keys : List Row). without_rows keys cut.before.table) (cut.cut.are
+      (hidden_fits t w stands aim.place x.group at h.reads seen_at h.hides cut.before cut.held
+      (hidden_key t w x aim.place aim.which of sound stands at h cut.store cut.kept cut.before cut.held cut.cut.roots cut.cut.keyed)))
+
   left_keys : cut.left.keys ≡ without_keys shown_keys cut.store.keys
-  left_keys = cut.cut.cut.gone.keys ∙ cut_keys shown_keys cut.store
+  left_keys = did.gone.keys ∙ cut_keys shown_keys cut.store
 
   its_list : IsListed left_group cut.left cut.behind.table
   its_list = so_listed left_group (record { reads = h.reads; dynamic = h.dynamic; timed = h.timed; hides = h.hides }) cut.left cut.behind.table
-      (keys_behind t w x aim.place aim.which of sound stands at h cut.store cut.kept cut.before cut.held cut.cut.roots cut.cut.keyed cut.left cut.behind.table left_keys cut.cut.out.rows)
+      (keys_behind t w x aim.place aim.which of sound stands at h cut.store cut.kept cut.before cut.held cut.cut.roots cut.cut.keyed cut.left cut.behind.table left_keys rows_left)
 
   count : n ≡ fm.len (matching_shown w x)
-  count = cut.cut.cut.count ∙ leaving_long w x aim.place aim.which of (kept_at cut.store.tables 0) (primary_of t.schema x.group.def.tree.root.table)
+  count = did.count ∙ leaving_long w x aim.place aim.which of (kept_at cut.store.tables 0) (primary_of t.schema x.group.def.tree.root.table)
       (roots_are t w sound stands aim.place x.group at cut.store cut.kept) (keyed_alone t w sound stands aim.place x.group at cut.store cut.kept)
       (shown_key t w x aim.place aim.which of sound stands at h cut.store cut.kept cut.before cut.held cut.cut.roots cut.cut.keyed)
 
   left_is : (p : ℕ) → kept_at cut.left.tables p ≡ kept_at (shown w.history w.tier.log left_group) p
-  left_is = left_shows t w sound stands aim.place x.group at cut.store cut.kept drops left_group shown_keys cut.left cut.cut.cut.gone refl refl (λ s is k r e.
+  left_is = left_shows t w sound stands aim.place x.group at cut.store cut.kept drops left_group shown_keys cut.left did.gone refl refl (λ s is k r e.
       alike s is k r e (shows_root s x.group r) refl
       ∙ ap (λ b. b && not (is_key gone k)) (shows_listed s x.group r h.reads h.dynamic)
       ∙ ap (λ q. (is_key x.group.keys (root_key s x.group r) && exceeds x.group r) && not (is_key gone q)) (sym (root_is t w sound stands aim.place x.group at cut.store cut.kept s is k r e))
@@ -560,7 +573,7 @@ module _ (drops : Drops) (t : Stored) (stores : Vec Kept) (hid : Vec RowsHeld) (
       known = refl;
       defined = changed_defs (alone x.place) (unloaded gone all) 0 w.tier.groups (unloaded_def gone all);
       stores = cut.stores;
-      form = form_kept t.schema x.group.def.tree cut.store cut.left (form_here t w sound stands aim.place x.group cut.store at cut.kept) (left_tree shown_keys cut.store cut.left cut.cut.cut.gone);
+      form = form_kept t.schema x.group.def.tree cut.store cut.left (form_here t w sound stands aim.place x.group cut.store at cut.kept) (left_tree shown_keys cut.store cut.left did.gone);
       its = λ u p e. shown_then u p e ∙ sym (tables_then w stands.stands x.place x.group there h.reads gone all u (ap is_some e));
       others = tables_stay w stands.stands x.place x.group there h.reads gone all;
     });
@@ -586,8 +599,8 @@ module _ {D : Type 0} (state : D → SiteState) (possible : D → ℕ → Held �
       let reads : is_read_only x.group ≡ true = kinds ∙ kind in
       let seen = group_stored t w.tier aim.place x.group stands.stored here in
       let h = hides_so (groups_in t.catalog) aim.place (without_list x.group) asked seen in
-      let its : AreCutAt aim.place (primary_of t.schema x.group.def.tree.root.table) aim.which t.stores.items t.hidden.items new.stores.items new.hidden.items n =
-      subst (λ (g : Group). AreCutAt aim.place (primary_of t.schema g.def.tree.root.table) aim.which t.stores.items t.hidden.items new.stores.items new.hidden.items n) (same_there (groups_in t.catalog) aim.place cut.group (without_list x.group) cut.there seen) cut.cut in
+      let its : AreCutAt (FitsFor t.schema x.group.def.tree.root.table) aim.place (primary_of t.schema x.group.def.tree.root.table) aim.which t.stores.items t.hidden.items new.stores.items new.hidden.items n =
+      subst (λ (g : Group). AreCutAt (FitsFor t.schema g.def.tree.root.table) aim.place (primary_of t.schema g.def.tree.root.table) aim.which t.stores.items t.hidden.items new.stores.items new.hidden.items n) (same_there (groups_in t.catalog) aim.place cut.group (without_list x.group) cut.there seen) cut.cut in
       let p = answers new w (unload_entries all x.group) (unload_answer x all) at keeps ready_for
       (stands_over (record t { stores = new.stores; hidden = new.hidden; verified = false }) new (with_tier (unload_answer x all w).0 w) cut.is (stands_hidden drops t new.stores new.hidden aim n sound w x stands here of h all its)) refl (λ j faults moment. refl)
       (counted_hidden drops t new.stores new.hidden aim n sound w x stands here of h all its told is) in
@@ -601,15 +614,36 @@ module _ {D : Type 0} (state : D → SiteState) (possible : D → ℕ → Held �
 
 -- ---- what is stored
 
+widened : (schema : List TableDef) (table : TableId) (def : TableDef) (place : ℕ) (columns : List ℕ) (which : ResolvedWhich) (stores : List Kept) (hid : List RowsHeld) (left : List Kept) (behind : List RowsHeld) (n : ℕ) → slice_get schema table.0 ≡ Some def
+    → AreCutAt (FitsUnder def) place columns which stores hid left behind n → AreCutAt (FitsFor schema table) place columns which stores hid left behind n
+widened schema table def place columns which stores hid left behind n is cut = record {
+  store = cut.store;
+  left = cut.left;
+  before = cut.before;
+  behind = cut.behind;
+  kept = cut.kept;
+  held = cut.held;
+  cut = record {
+    roots = cut.cut.roots;
+    cut = cut_widened schema table def which columns cut.store cut.left n is cut.cut.cut;
+    keyed = cut.cut.keyed;
+    others = cut.cut.others;
+    are = λ fits. cut.cut.are (fits def is);
+    out = cut.cut.out;
+  };
+  stores = cut.stores;
+  rows = cut.rows;
+}
+
 pub group_hidden : (t new : Stored) (aim : Aim) (n : ℕ) (seen : Group) (def : TableDef) (columns : List ℕ) → slice_get (groups_in t.catalog) aim.place ≡ Some seen → slice_get t.schema seen.def.tree.root.table.0 ≡ Some def → columns ≡ def.primary_key
-    → AreCutAt aim.place columns aim.which t.stores.items t.hidden.items new.stores.items new.hidden.items n → new ≡ record t { stores = new.stores; hidden = new.hidden; verified = false } → IsCutHiding t new aim n
+    → AreCutAt (FitsUnder def) aim.place columns aim.which t.stores.items t.hidden.items new.stores.items new.hidden.items n → new ≡ record t { stores = new.stores; hidden = new.hidden; verified = false } → IsCutHiding t new aim n
 group_hidden t new aim n seen def columns at defined are cut same =
     let its : columns ≡ primary_of t.schema seen.def.tree.root.table = are ∙ sym (ap (λ o. unwrap_or (option_map (λ (d : TableDef). d.primary_key) o) []) defined) in
     let unverified : new.verified ≡ false = ap (λ (y : Stored). y.verified) same in
     record {
       group = seen;
       there = at;
-      cut = subst (λ cs. AreCutAt aim.place cs aim.which t.stores.items t.hidden.items new.stores.items new.hidden.items n) its cut;
+      cut = subst (λ cs. AreCutAt (FitsFor t.schema seen.def.tree.root.table) aim.place cs aim.which t.stores.items t.hidden.items new.stores.items new.hidden.items n) its (widened t.schema seen.def.tree.root.table def aim.place columns aim.which t.stores.items t.hidden.items new.stores.items new.hidden.items n defined cut);
       is = same ∙ (λ i. record t { stores = new.stores; hidden = new.hidden; verified = sym unverified i });
       known = λ noted. absurd (never_both new.verified noted unverified);
     }
@@ -630,10 +664,10 @@ out_more keys n key old mid new lt is before rows places spare = record {
 
 -- at a place of lists
 
-pub both_at : {E : Type 0} (place : ℕ) (columns : List ℕ) (which : ResolvedWhich) (stores : List Kept) (hid : List RowsHeld) (store left : Kept) (before behind : RowsHeld) (r : Result ℕ E) → slice_get stores place ≡ Some store → slice_get hid place ≡ Some before
-    → IfOk r (AreCutBy which columns store left before behind) → IfOk r (AreCutAt place columns which stores hid (set stores place left) (set hid place behind))
-both_at place cs which stores hid store left before behind (Err e) kept held is = is
-both_at place cs which stores hid store left before behind (Ok n) kept held is = record {
+pub both_at : {E : Type 0} (fits : Table → Type 0) (place : ℕ) (columns : List ℕ) (which : ResolvedWhich) (stores : List Kept) (hid : List RowsHeld) (store left : Kept) (before behind : RowsHeld) (r : Result ℕ E) → slice_get stores place ≡ Some store → slice_get hid place ≡ Some before
+    → IfOk r (AreCutBy fits which columns store left before behind) → IfOk r (AreCutAt fits place columns which stores hid (set stores place left) (set hid place behind))
+both_at fits place cs which stores hid store left before behind (Err e) kept held is = is
+both_at fits place cs which stores hid store left before behind (Ok n) kept held is = record {
   store = store;
   left = left;
   before = before;

@@ -1,6 +1,5 @@
 -- What UNLOAD leaves was stored before, and it may be noted anew that sessions may read over it.
 use Rattle.std.proofs.Common.{◌≡◌, ◌∙◌, ℕ, Bool, true, Some, set, slice_get, sym, ap, subst}
-use Rattle.instances.specs.Views.{kept_at}
 use Rattle.table_state.specs.Keyed.{IsKeyed}
 use Rattle.group_catalog.specs.Catalogs.{groups_in}
 use Rattle.group_store.specs.Keeping.{primary_of}
@@ -12,8 +11,9 @@ use Rattle.confirmed_rows.specs.Coming.{HasRowsOf, HaveRowsOf, StayKeyed, Stores
 use Rattle.confirmed_rows.proofs.RowsOf.{all_set, rows_alike, rows_cleared, rows_through}
 use Rattle.aging_cycles.proofs.LeftRows.{rows_gone}
 use Rattle.group_engine.specs.declared.aiming.Aim.{Aim}
-use Rattle.group_engine.specs.Unloading.{IsClearedGroup, IsCutGroup, LeavesGroup, leaving}
+use Rattle.group_engine.specs.Unloading.{IsClearedGroup, IsCutGroup, LeavesGroup}
 use Rattle.group_engine.specs.UnloadHidden.{AreCutAt, IsCutHiding}
+use Rattle.group_engine.specs.UnloadNamed.{FitsFor}
 
 -- what is noted of a sound tier is another
 pub sound_confirmed : (t new : Stored) → IsSound t → new ≡ record t { verified = new.verified } → (new.verified ≡ true → IsVerified new) → IsSound new
@@ -42,7 +42,7 @@ set_rows t new place s left schema kept is has = record {
 
 cut_rows : (t new : Stored) (aim : Aim) (all : Bool) (n : ℕ) → IsCutGroup t new aim all n → StoresRowsOf t new
 cut_rows t new aim all n c = set_rows t new aim.place c.store c.left c.beside.schema c.kept c.stores
-    (rows_gone t.schema (leaving aim.which (primary_of t.schema c.group.def.tree.root.table) (kept_at c.store.tables 0)) c.store c.left c.did.gone)
+    (rows_gone t.schema c.did.keys c.store c.left c.did.gone)
 
 cleared_rows : (t new : Stored) (place n : ℕ) → IsClearedGroup t new place n → StoresRowsOf t new
 cleared_rows t new place n c = set_rows t new place c.store c.left c.beside.schema c.kept c.stores
@@ -50,7 +50,7 @@ cleared_rows t new place n c = set_rows t new place c.store c.left c.beside.sche
 
 hiding_rows : (t new : Stored) (aim : Aim) (n : ℕ) → IsCutHiding t new aim n → StoresRowsOf t new
 hiding_rows t new aim n c = set_rows t new aim.place c.cut.store c.cut.left (ap (λ (y : Stored). y.schema) c.is) c.cut.kept c.cut.stores
-    (rows_gone t.schema (leaving aim.which (primary_of t.schema c.group.def.tree.root.table) (kept_at c.cut.store.tables 0)) c.cut.store c.cut.left c.cut.cut.cut.gone)
+    (rows_gone t.schema c.cut.cut.cut.keys c.cut.store c.cut.left c.cut.cut.cut.gone)
 
 -- so it stands under its keys, where sessions might read over it
 
@@ -95,7 +95,7 @@ pub hiding_noted : (t mid new : Stored) (aim : Aim) (n : ℕ) → IsCutHiding t 
 hiding_noted t mid new aim n c same sound = record {
   group = c.group;
   there = c.there;
-  cut = subst (λ (y : Stored). AreCutAt aim.place (primary_of t.schema c.group.def.tree.root.table) aim.which t.stores.items t.hidden.items y.stores.items y.hidden.items n) (sym same) c.cut;
+  cut = subst (λ (y : Stored). AreCutAt (FitsFor t.schema c.group.def.tree.root.table) aim.place (primary_of t.schema c.group.def.tree.root.table) aim.which t.stores.items t.hidden.items y.stores.items y.hidden.items n) (sym same) c.cut;
   is = same ∙ (λ i. record (c.is i) { verified = new.verified }) ∙ (λ i. record t { stores = sym (stores_are same) i; hidden = sym (hidden_are same) i; verified = new.verified });
   known = sound.verified;
 }

@@ -59,6 +59,9 @@ use Rattle.group_engine.specs.declared.ready.Ready.{Ready}
 use Rattle.group_engine.specs.Ready.{AnswersBehind, is_full_ready}
 use Rattle.group_engine.specs.Taking.{IsOfTarget}
 use Rattle.group_engine.specs.Unloading.{IsCutBy, IsCutGroup, UnloadsReady, UnloadsTarget, leaving, lists_shown}
+use Rattle.group_engine.specs.UnloadNamed.{FitsFor}
+use Rattle.group_engine.proofs.FittingRows.{shown_fits}
+use Rattle.group_engine.proofs.NamedKeys.{HasCut, has_cut}
 use Rattle.group_engine.specs.UnloadLocks.{FitsIn, RootsTold}
 use Rattle.group_engine.proofs.DropLocks.{group_stored}
 use Rattle.group_engine.proofs.FlagLaws.{flagged_seen}
@@ -161,9 +164,11 @@ module _ (drops : Drops) (t new : Stored) (aim : Aim) (n : ℕ) (sound : IsSound
   abbrev left_group : Group
   left_group = record x.group { keys = without_keys (gone_keys w x) x.group.keys }
 
-  did : IsCutBy aim.which (primary_of t.schema x.group.def.tree.root.table) cut.store cut.left n
-  did = subst (λ (g : Group). IsCutBy aim.which (primary_of t.schema g.def.tree.root.table) cut.store cut.left n)
-      (same_there (groups_in t.catalog) aim.place cut.group (without_list x.group) cut.there (group_stored t w.tier aim.place x.group stands.stored at)) cut.did
+  did : HasCut aim.which (primary_of t.schema x.group.def.tree.root.table) cut.store cut.left n
+  did = has_cut (FitsFor t.schema x.group.def.tree.root.table) aim.which (primary_of t.schema x.group.def.tree.root.table) cut.store cut.left n
+      (subst (λ (g : Group). IsCutBy (FitsFor t.schema g.def.tree.root.table) aim.which (primary_of t.schema g.def.tree.root.table) cut.store cut.left n)
+      (same_there (groups_in t.catalog) aim.place cut.group (without_list x.group) cut.there (group_stored t w.tier aim.place x.group stands.stored at)) cut.did)
+      (shown_fits t w stands aim.place x.group at sound cut.store cut.kept)
 
   by_columns : (k r : Row) → fm.get (kept_at cut.store.tables 0) k ≡ Some r → key_of (primary_of t.schema x.group.def.tree.root.table) r ≡ k
   by_columns k r e = ap (λ cs. key_of cs r) (sym (form t w sound stands aim.place x.group at cut.store cut.kept).key) ∙ keyed t w sound stands aim.place x.group at cut.store cut.kept k r e

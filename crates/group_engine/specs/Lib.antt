@@ -14,4 +14,5 @@ pub mod Taking
 pub mod Touching
 pub mod UnloadLocks
 pub mod UnloadHidden
+pub mod UnloadNamed
 pub mod Unloading

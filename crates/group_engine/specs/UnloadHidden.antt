@@ -12,6 +12,7 @@ use Rattle.group_store.specs.Keeping.{primary_of}
 use Rattle.group_store.specs.Stores.{HasRootKeys, Kept}
 use Rattle.cache_tier.specs.Groups.{Group}
 use Rattle.group_engine.specs.declared.aiming.Aim.{Aim}
+use Rattle.group_engine.specs.UnloadNamed.{FitsFor}
 use Rattle.group_engine.specs.Unloading.{IsCutBy, leaving}
 use Rattle.stored_tier.specs.Lists.{hides_keys}
 use Rattle.stored_tier.specs.Stored.{IsVerified}
@@ -33,24 +34,26 @@ pub record AreOut (keys : List (List Value)) (old new : RowsHeld) : Type 0 where
   pub places : new.places ≡ old.places
   pub spare : new.spare ≡ old.spare
 
--- the instances that match left a store, so many, and of the hidden root rows those that match
-pub record AreCutBy (which : ResolvedWhich) (columns : List ℕ) (store left : Kept) (hidden behind : RowsHeld) (n : ℕ)
-    : Type 0 where
+-- instances left a store, so many, and hidden root rows; where the root rows fit, those that match
+pub record AreCutBy (fits : Table → Type 0) (which : ResolvedWhich) (columns : List ℕ) (store left : Kept)
+    (hidden behind : RowsHeld) (n : ℕ) : Type 0 where
   pub roots : HasRootKeys store
-  pub cut : IsCutBy which columns store left n
+  pub cut : IsCutBy fits which columns store left n
   pub keyed : IsKeyedBy hidden.places hidden.table
-  pub out : AreOut (leaving which columns hidden.table) hidden behind
+  pub others : List (List Value)
+  pub are : fits hidden.table → others ≡ leaving which columns hidden.table
+  pub out : AreOut others hidden behind
 
 -- the same at a place of lists
-pub record AreCutAt (place : ℕ) (columns : List ℕ) (which : ResolvedWhich) (old : List Kept) (hid : List RowsHeld)
-    (new : List Kept) (hidden : List RowsHeld) (n : ℕ) : Type 0 where
+pub record AreCutAt (fits : Table → Type 0) (place : ℕ) (columns : List ℕ) (which : ResolvedWhich) (old : List Kept)
+    (hid : List RowsHeld) (new : List Kept) (hidden : List RowsHeld) (n : ℕ) : Type 0 where
   pub store : Kept
   pub left : Kept
   pub before : RowsHeld
   pub behind : RowsHeld
   pub kept : slice_get old place ≡ Some store
   pub held : slice_get hid place ≡ Some before
-  pub cut : AreCutBy which columns store left before behind n
+  pub cut : AreCutBy fits which columns store left before behind n
   pub stores : new ≡ set old place left
   pub rows : hidden ≡ set hid place behind
 
@@ -59,7 +62,8 @@ pub record AreCutAt (place : ℕ) (columns : List ℕ) (which : ResolvedWhich) (
 pub record IsCutHiding (t new : Stored) (aim : Aim) (n : ℕ) : Type 0 where
   pub group : Group
   pub there : slice_get (groups_in t.catalog) aim.place ≡ Some group
-  pub cut : AreCutAt aim.place (primary_of t.schema group.def.tree.root.table) aim.which t.stores.items t.hidden.items
-      new.stores.items new.hidden.items n
+  pub cut : AreCutAt (FitsFor t.schema group.def.tree.root.table) aim.place
+      (primary_of t.schema group.def.tree.root.table) aim.which t.stores.items t.hidden.items new.stores.items
+      new.hidden.items n
   pub is : new ≡ record t { stores = new.stores; hidden = new.hidden; verified = new.verified }
   pub known : new.verified ≡ true → IsVerified new

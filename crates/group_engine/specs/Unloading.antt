@@ -42,6 +42,7 @@ use Rattle.group_engine.specs.declared.ready.Ready.{Ready}
 use Rattle.group_engine.specs.Ready.{IsReadyFor}
 use Rattle.stored_tier.specs.Stored.{HasSession, IsStoredAs, IsVerified}
 use Rattle.group_engine.specs.Taking.{IsOfTarget}
+use Rattle.group_engine.specs.UnloadNamed.{FitsFor}
 use Rattle.cache_tier.specs.JournalSteps.{FlushesSome}
 use Rattle.cache_tier.specs.Reading.{Answers}
 use Rattle.cache_tier.specs.Sets.{alone, changed_from}
@@ -78,17 +79,21 @@ abbrev pub leaving : ResolvedWhich → List ℕ → Table → List (List Value)
 leaving which columns rows =
     map (key_of columns) (filter (λ row. matches_at which (key_of columns row) row) (values rows))
 
--- the instances that match left, so many
-pub record IsCutBy (which : ResolvedWhich) (columns : List ℕ) (old new : Kept) (n : ℕ) : Type 0 where
-  pub count : n ≡ length (leaving which columns (kept_at old.tables 0))
-  pub gone : SameButSpare (cut_all (leaving which columns (kept_at old.tables 0)) old) new
+-- instances left, so many; where the root rows fit, those that match
+pub record IsCutBy (fits : Table → Type 0) (which : ResolvedWhich) (columns : List ℕ) (old new : Kept) (n : ℕ)
+    : Type 0 where
+  pub keys : List (List Value)
+  pub are : fits (kept_at old.tables 0) → keys ≡ leaving which columns (kept_at old.tables 0)
+  pub count : n ≡ length keys
+  pub gone : SameButSpare (cut_all keys old) new
 
 -- the same of the store at a place
-pub record IsCutAt (place : ℕ) (columns : List ℕ) (which : ResolvedWhich) (old new : List Kept) (n : ℕ) : Type 0 where
+pub record IsCutAt (fits : Table → Type 0) (place : ℕ) (columns : List ℕ) (which : ResolvedWhich)
+    (old new : List Kept) (n : ℕ) : Type 0 where
   pub store : Kept
   pub left : Kept
   pub kept : slice_get old place ≡ Some store
-  pub cut : IsCutBy which columns store left n
+  pub cut : IsCutBy fits which columns store left n
   pub is : new ≡ set old place left
 
 -- all instances left, so many
@@ -147,7 +152,8 @@ lists_shown (Some g) = g.def.dynamic && not (hides_keys g)
 abbrev pub IsCutGroup : Stored → Stored → Aim → Bool → ℕ → Type 0
 IsCutGroup t new aim all n =
     LeavesGroup t new aim.place all
-    (λ g store left. IsCutBy aim.which (primary_of t.schema g.def.tree.root.table) store left n)
+    (λ g store left. IsCutBy (FitsFor t.schema g.def.tree.root.table) aim.which
+    (primary_of t.schema g.def.tree.root.table) store left n)
 
 -- all of them
 abbrev pub IsClearedGroup : Stored → Stored → ℕ → ℕ → Type 0

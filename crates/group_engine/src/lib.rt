@@ -20,4 +20,5 @@ mod unload_hidden;
 mod unload_kept;
 mod unload_listed;
 pub mod unload_locks;
+mod unload_named;
 pub mod unloading;

@@ -9,11 +9,13 @@ ghost use Rattle.stored_tier.specs.Stored.{IsSound};
 ghost use Rattle.group_engine.specs.Ready.{IsPlacedReady};
 ghost use Rattle.group_engine.specs.Unloading.{UnloadsReady, leaving};
 ghost use Rattle.group_engine.specs.UnloadHidden.{AreCutAt, AreCutBy, AreOut, IsCutHiding, hides_some};
+ghost use Rattle.group_engine.specs.UnloadNamed.{FitsUnder};
 
 use crate::aiming::Aim;
 use crate::ready::{Ready, answer_behind, slot_is_full};
 use crate::unload_kept::hide_kept;
-use crate::unloading::{cut_all, judge_roots, leaving};
+use crate::unload_named::{is_match, leaving, named_key, only_if};
+use crate::unloading::{cut_all, judge_roots};
 use cache_tier::reply::Reply;
 use group_catalog::ResolvedWhich;
 use group_store::Store;
@@ -25,6 +27,7 @@ use slot_rows::SlotRows;
 use std::alloc::{AllocError, Global};
 use stored_tier::filling::hides_keys;
 use stored_tier::tier::Tier;
+use table_defs::TableDef;
 use tier_journal::TierJournal;
 use tier_statements::done;
 
@@ -92,13 +95,12 @@ pub(crate) fn cut_hiding(tier: &mut Tier, alloc: Global, aim: &Aim) -> Result<us
                 if place >= tier.stores.len() || place >= tier.hidden.len() {
                     return Err(AllocError);
                 }
-                let columns = def.primary_key.as_slice();
                 match cut_at(
                     alloc,
                     &mut tier.stores,
                     &mut tier.hidden,
                     place,
-                    columns,
+                    def,
                     &aim.which,
                 ) {
                     Err(AllocError) => Err(AllocError),
@@ -118,37 +120,32 @@ fn cut_at(
     stores: &mut Vec<Store>,
     hidden: &mut Vec<SlotRows>,
     place: usize,
-    columns: &[usize],
+    def: &TableDef,
     which: &ResolvedWhich,
 ) -> Result<usize, AllocError>
     requires stores { place < length stores.old.items }
     requires hidden { place < length hidden.old.items }
-    ensures ok { IfOk result (AreCutAt place columns.now which.now stores.old.items hidden.old.items
-        stores.new.items hidden.new.items) }
+    ensures ok { IfOk result (AreCutAt (FitsUnder def.now) place def.now.primary_key which.now
+        stores.old.items hidden.old.items stores.new.items hidden.new.items) }
     ensures err { OnErr result
         ((stores.new.items ≡ stores.old.items) × (hidden.new.items ≡ hidden.old.items)) }
 {
-    cut_both(
-        alloc,
-        &mut stores[place],
-        &mut hidden[place],
-        columns,
-        which,
-    )
+    cut_both(alloc, &mut stores[place], &mut hidden[place], def, which)
 }
 
 fn cut_both(
     alloc: Global,
     store: &mut Store,
     hidden: &mut SlotRows,
-    columns: &[usize],
+    def: &TableDef,
     which: &ResolvedWhich,
 ) -> Result<usize, AllocError>
-    ensures ok { IfOk result (AreCutBy which.now columns.now store.old store.new hidden.old hidden.new) }
+    ensures ok { IfOk result (AreCutBy (FitsUnder def.now) which.now def.now.primary_key
+        store.old store.new hidden.old hidden.new) }
     ensures err { OnErr result ((store.new ≡ store.old) × (hidden.new ≡ hidden.old)) }
 {
-    let keys = leaving(alloc, store, columns, which)?;
-    let others = leaving_hidden(alloc, hidden, columns, which)?;
+    let keys = leaving(alloc, store, def, which)?;
+    let others = leaving_hidden(alloc, hidden, def, which)?;
     store.keys_law();
     let _ = hidden.len();
     cut_all(store, keys.as_slice());
@@ -156,8 +153,27 @@ fn cut_both(
     Ok(keys.len())
 }
 
-// The keys of the hidden root rows that match.
+// The keys of the hidden root rows that match. Where WITH ID tells the only one that may, it is looked up.
 fn leaving_hidden(
+    alloc: Global,
+    hidden: &SlotRows,
+    def: &TableDef,
+    which: &ResolvedWhich,
+) -> Result<Vec<Key>, AllocError>
+    ensures { IfOk result (λ keys. FitsUnder def.now hidden.now.table
+        → keys.items ≡ leaving which.now def.now.primary_key hidden.now.table) }
+{
+    match named_key(alloc, def, which)? {
+        None => all_hidden(alloc, hidden, def.primary_key.as_slice(), which),
+        Some(key) => {
+            let matches = is_match(which, hidden.get(key.values()), &key);
+            only_if(alloc, matches, key)
+        }
+    }
+}
+
+// The same by a look at each hidden root row.
+fn all_hidden(
     alloc: Global,
     hidden: &SlotRows,
     columns: &[usize],

@@ -15,8 +15,9 @@ ghost use Rattle.cache_tier.specs.Locks.{locked_by};
 ghost use Rattle.cache_tier.specs.Conditions.{overflows};
 ghost use Rattle.stored_tier.specs.Grouping.{KeepsGroups};
 ghost use Rattle.aging_cycles.specs.Running.{cut_all};
-ghost use Rattle.group_engine.specs.Unloading.{IsClearedAt, IsClearedBy, IsClearedGroup, IsCutAt, IsCutBy, IsCutGroup, IsReadyToLeave, IsWholeAt, UnloadsHere, UnloadsReady, flagged, leaving, unload_state, AimsUnloadIn};
+ghost use Rattle.group_engine.specs.Unloading.{IsClearedAt, IsClearedBy, IsClearedGroup, IsCutAt, IsCutBy, IsCutGroup, IsReadyToLeave, IsWholeAt, UnloadsHere, UnloadsReady, flagged, unload_state, AimsUnloadIn};
 ghost use Rattle.group_engine.specs.UnloadLocks.{LocksTold, RootsTold, UnloadTold};
+ghost use Rattle.group_engine.specs.UnloadNamed.{FitsUnder};
 ghost use Rattle.group_catalog.specs.Catalogs.{groups_in};
 ghost use Rattle.kept_journal.specs.Drafts.{StaysKept};
 ghost use Rattle.stored_tier.specs.Performing.{Executes, IsCausedOver, PerformsInOver, reply_of};
@@ -30,13 +31,13 @@ use crate::readying::ready_unload;
 use crate::unload_kept::{clear_kept, cut_kept};
 use crate::unload_listed::unload_listed;
 use crate::unload_locks::writer_within;
+use crate::unload_named::leaving;
 use cache_tier::laws::tier_law;
 use cache_tier::reply::Reply;
 use cache_tier::unload_statement_law;
 use group_catalog::{Catalog, KeptGroup, ResolvedWhich};
 use group_store::laws::drop_instance_law;
 use group_store::{Shown, Store};
-use indexed_rows::key_at;
 use open_sessions::laws::label_law;
 use outside::Site;
 use row_types::{Detail, Key, Refused, Rule};
@@ -45,6 +46,7 @@ use sql_subset::stmt::{OfGroup, Which};
 use std::alloc::{AllocError, Global};
 use stored_tier::filling::hides_keys;
 use stored_tier::tier::Tier;
+use table_defs::TableDef;
 use table_state::Op;
 use table_state::scan_laws::keyed_law;
 use tier_base::{Code, SessionId};
@@ -306,8 +308,7 @@ pub(crate) fn cut_group(
                 if hides_keys(group) {
                     return Err(AllocError);
                 }
-                let columns = def.primary_key.as_slice();
-                match cut_at(alloc, &mut tier.stores, place, columns, &aim.which) {
+                match cut_at(alloc, &mut tier.stores, place, def, &aim.which) {
                     Err(AllocError) => Err(AllocError),
                     Ok(count) => {
                         clear_flag(tier, place, all);
@@ -408,27 +409,28 @@ fn cut_at(
     alloc: Global,
     stores: &mut Vec<Store>,
     place: usize,
-    columns: &[usize],
+    def: &TableDef,
     which: &ResolvedWhich,
 ) -> Result<usize, AllocError>
     requires { place < length stores.old.items }
-    ensures ok { IfOk result (IsCutAt place columns.now which.now stores.old.items stores.new.items) }
+    ensures ok { IfOk result (IsCutAt (FitsUnder def.now) place def.now.primary_key which.now
+        stores.old.items stores.new.items) }
     ensures err { OnErr result (stores.new.items ≡ stores.old.items) }
 {
-    cut_matching(alloc, &mut stores[place], columns, which)
+    cut_matching(alloc, &mut stores[place], def, which)
 }
 
 // The instances leave whose root rows match; how many. It fails for want of memory alone, and all then stays.
 fn cut_matching(
     alloc: Global,
     store: &mut Store,
-    columns: &[usize],
+    def: &TableDef,
     which: &ResolvedWhich,
 ) -> Result<usize, AllocError>
-    ensures ok { IfOk result (IsCutBy which.now columns.now store.old store.new) }
+    ensures ok { IfOk result (IsCutBy (FitsUnder def.now) which.now def.now.primary_key store.old store.new) }
     ensures err { OnErr result (store.new ≡ store.old) }
 {
-    let keys = leaving(alloc, store, columns, which)?;
+    let keys = leaving(alloc, store, def, which)?;
     cut_all(store, keys.as_slice());
     Ok(keys.len())
 }
@@ -453,6 +455,9 @@ fn clear_store(alloc: Global, store: &mut Store) -> usize
 fn overflows(store: &Store, which: &ResolvedWhich) -> bool
     ensures { result ≡ overflows which.now.filter (kept_at store.now.tables 0) }
 {
+    if which.filter.is_none() {
+        return false;
+    }
     for place in 0..store.len(0) {
         match store.row(0, place) {
             None => {}
@@ -464,30 +469,6 @@ fn overflows(store: &Store, which: &ResolvedWhich) -> bool
         }
     }
     false
-}
-
-/// The keys of the root rows that match.
-pub(crate) fn leaving(
-    alloc: Global,
-    store: &Store,
-    columns: &[usize],
-    which: &ResolvedWhich,
-) -> Result<Vec<Key>, AllocError>
-    ensures { IfOk result (λ keys. keys.items ≡ leaving which.now columns.now (kept_at store.now.tables 0)) }
-{
-    let mut keys = Vec::new(alloc);
-    for place in 0..store.len(0) {
-        match store.row(0, place) {
-            None => {}
-            Some(row) => {
-                let key = key_at(alloc, columns, row)?;
-                if which.matches(row, &key) {
-                    keys.push(key)?;
-                }
-            }
-        }
-    }
-    Ok(keys)
 }
 
 /// The instances of these root keys leave. It takes no memory.

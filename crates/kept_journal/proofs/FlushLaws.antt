@@ -27,7 +27,7 @@ use Rattle.kept_journal.specs.declared.draft.Draft.{Draft}
 use Rattle.kept_journal.specs.declared.draft.Draft.TheVariants.{Fits, Full, Unkept}
 use Rattle.kept_journal.specs.Drafts.{FitsBehind, IsDraftOf, is_full_draft}
 use Rattle.kept_journal.proofs.DraftLaws.{full_so}
-use Rattle.kept_journal.proofs.WayLaws.{leaves_as, on_way, turned_leaves}
+use Rattle.kept_journal.proofs.WayLaws.{flushed_tables, leaves_as, on_way, turned_leaves}
 use Rattle.kept_journal.specs.Keeping.{IsOver, IsWrittenOver, KeepsOver, TellsSame, WritesOver, is_broken, over_disk}
 
 abbrev world_of : World → Journal → ℕ → World
@@ -109,7 +109,8 @@ module _ {D : Type 0} (state : D → SiteState) (possible : D → ℕ → Held �
           keeps = on_way w.tier.schema t' on.now.slots (journal_with w entries) j.way on.keeps;
           version = version ∙ over.version;
           leaves =
-              turned_leaves state possible d d' over.there on.now w w' over.certain on.beside refl refl
+              turned_leaves state possible d d' over.there on.now w w' over.certain on.beside refl refl (flushed_tables w.tier.schema t over.there.slots w.journal over.keeps)
+              (flushed_tables w.tier.schema t' on.now.slots (flushed_with (name_size w.tier.schema) entries w.journal) on.keeps)
               (subst (λ (l : List JournalEntry). Leaves state possible d d' (GivesEither w.tier.schema over.there w.journal.flushed l)) (sym (flushed_all (name_size w.tier.schema) entries w.journal)) left)
               w.journal.way over.leaves;
         };

@@ -16,7 +16,7 @@ use Rattle.tier_journal.specs.Keeping.{KeepsOn, version_in}
 use Rattle.tier_journal.specs.Leaving.{LeftByRotation}
 use Rattle.kept_journal.specs.Keeping.{IsOver, IsWrittenOver, KeepsOver, TellsSame, is_broken, over_disk}
 use Rattle.kept_journal.proofs.FlushLaws.{IsRead, is_some, still_over, still_some}
-use Rattle.kept_journal.proofs.WayLaws.{on_way, turned_leaves}
+use Rattle.kept_journal.proofs.WayLaws.{flushed_tables, on_way, turned_leaves}
 
 -- the journal stays
 stays_kept : (w : World) → Rotates w w None
@@ -73,7 +73,8 @@ module _ {D : Type 0} (state : D → SiteState) (possible : D → ℕ → Held �
           certain = on.certain;
           keeps = on_way w.tier.schema t' on.now.slots (rotated (name_size w.tier.schema) (slot_entries w.tier) w.journal) j.way on.keeps;
           version = version;
-          leaves = turned_leaves state possible d d' over.there on.now w w' over.certain on.beside refl refl left w.journal.way over.leaves;
+          leaves = turned_leaves state possible d d' over.there on.now w w' over.certain on.beside refl refl (flushed_tables w.tier.schema t over.there.slots w.journal over.keeps)
+              (flushed_tables w.tier.schema t' on.now.slots (rotated (name_size w.tier.schema) (slot_entries w.tier) w.journal) on.keeps) left w.journal.way over.leaves;
         };
       }
 

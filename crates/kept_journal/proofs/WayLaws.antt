@@ -1,5 +1,6 @@
 -- Points on the way of a journal, over what writes to it.
 use Rattle.std.proofs.Common.{◌≡◌, ℕ, ◌≤◌, ◌⊎◌, inl, inr, Option, Some, None, List, [], ◌∷◌, ◌++◌, length, take, refl, sym, ap, subst, ◌∙◌, arith, append-nil}
+use Rattle.std.specs.List.{AllByRecursion}
 use Rattle.std.proofs.lemmas.Bool.{cases_lt}
 use Rattle.std.proofs.lemmas.Option.{same_Some}
 use Rattle.table_defs.specs.declared.definition.TableDef.{TableDef}
@@ -14,7 +15,7 @@ use Rattle.commit_journal.proofs.TailLaws.{rest_bytes, rest_gives}
 use Rattle.tier_journal.specs.declared.journal.TierJournal.{TierJournal}
 use Rattle.tier_journal.specs.Keeping.{Keeps}
 use Rattle.tier_journal.specs.Leaving.{GivesEither, GivesEntries}
-use Rattle.tier_journal.specs.Writing.{written_all}
+use Rattle.tier_journal.specs.Writing.{HasTables, written_all}
 use Rattle.kept_journal.specs.Beginning.{WaysMayBegin, begun_here}
 use Rattle.kept_journal.specs.Keeping.{IsOver, KeepsOver, TellsSame}
 use Rattle.kept_journal.specs.Leaving.{HasBecome, IsOnWay, LeavesOnWay, LeavesPoints}
@@ -54,6 +55,14 @@ flushed_gives schema t slots j k = record {
   bytes = rest_bytes t.journal slots (written_all schema j.flushed) (written_all schema j.tail) k.rests;
 }
 
+front_tables : (schema : List TableDef) (xs ys : List JournalEntry) → AllByRecursion (HasTables schema) (xs ++ ys) → AllByRecursion (HasTables schema) xs
+front_tables schema [] ys all = tt
+front_tables schema (x ∷ xs) ys all = (all.0, front_tables schema xs ys all.1)
+
+-- and its tables are the schema's
+pub flushed_tables : (schema : List TableDef) (t : TierJournal) (slots : Slots) (j : Journal) → Keeps schema t slots j → AllByRecursion (HasTables schema) j.flushed
+flushed_tables schema t slots j k = front_tables schema j.flushed j.tail k.tables
+
 -- the way says nothing of what is kept
 pub on_way : (schema : List TableDef) (t : TierJournal) (slots : Slots) (j : Journal) (way : Option Way) → Keeps schema t slots j → Keeps schema t slots (record j { way = way })
 on_way schema t slots j way k = record { kept = k.kept; rests = k.rests; written = k.written; generation = k.generation; tables = k.tables }
@@ -75,6 +84,7 @@ module _ {D : Type 0} (state : D → SiteState) (possible : D → ℕ → Held �
 
   -- The slots turn from some entries to others, and nothing beside them changes.
   module _ (d d' : D) (o now : Held) (w w' : World) (certain : Certain state possible d o) (beside : now.history ≡ o.history) (schema : w'.tier.schema ≡ w.tier.schema) (history : w'.history ≡ w.history)
+      (old_tables : AllByRecursion (HasTables w.tier.schema) w.journal.flushed) (new_tables : AllByRecursion (HasTables w.tier.schema) w'.journal.flushed)
       (left : Leaves state possible d d' (GivesEither w.tier.schema o w.journal.flushed w'.journal.flushed)) (way : Way) (leaves : LeavesPoints state possible d o w way) where
     abbrev len : ℕ
     len = length w.history
@@ -108,8 +118,8 @@ module _ {D : Type 0} (state : D → SiteState) (possible : D → ℕ → Held �
     abbrev way_then : Way
     way_then = record { since = way.since; from = way.from; past = past }
 
-    here : (entries : List JournalEntry) (p : Held) → p.history ≡ o.history → GivesEntries w.tier.schema p.slots entries → IsPoint way.from past w'.journal.flushed (length now.history) entries len → IsOnWay w'.tier.schema way_then w'.journal.flushed now.history p
-    here entries p is gives point = record {
+    here : (entries : List JournalEntry) (p : Held) → p.history ≡ o.history → AllByRecursion (HasTables w.tier.schema) entries → GivesEntries w.tier.schema p.slots entries → IsPoint way.from past w'.journal.flushed (length now.history) entries len → IsOnWay w'.tier.schema way_then w'.journal.flushed now.history p
+    here entries p is tables gives point = record {
       entries = entries;
       count = len;
       point = point;
@@ -117,6 +127,7 @@ module _ {D : Type 0} (state : D → SiteState) (possible : D → ℕ → Held �
       front = whole p is;
       early = w.tier.schema;
       becomes = subst (HasBecome w.tier.schema) (sym schema) (no_more w.tier.schema);
+      tables = tables;
       gives = gives;
     }
 
@@ -131,6 +142,7 @@ module _ {D : Type 0} (state : D → SiteState) (possible : D → ℕ → Held �
       front = q.front ∙ ap (λ (h : List Entry). take q.count h) (sym beside);
       early = q.early;
       becomes = subst (HasBecome q.early) (sym schema) q.becomes;
+      tables = q.tables;
       gives = q.gives;
     }
 
@@ -141,15 +153,15 @@ module _ {D : Type 0} (state : D → SiteState) (possible : D → ℕ → Held �
       leaves = λ k p lo hi h. elim (cases_lt (state d).moment k) [
         | inl later ↦
             let g = left.each k p (omega arith) hi h in
-            elim g.gives [ inl old ↦ here w.journal.flushed p g.beside old old_point | inr new ↦ here w'.journal.flushed p g.beside new new_point ]
+            elim g.gives [ inl old ↦ here w.journal.flushed p g.beside old_tables old old_point | inr new ↦ here w'.journal.flushed p g.beside new_tables new new_point ]
         | inr early ↦ before p (leaves.leaves k p lo early (left.past k p early h))
       ];
     }
 
   pub turned_leaves : (d d' : D) (o now : Held) (w w' : World) → Certain state possible d o → now.history ≡ o.history → w'.tier.schema ≡ w.tier.schema → w'.history ≡ w.history
-      → Leaves state possible d d' (GivesEither w.tier.schema o w.journal.flushed w'.journal.flushed) → (way : Option Way) → LeavesOnWay state possible d o w way → LeavesOnWay state possible d' now w' (passed_by w.journal.flushed (length w.history) way)
-  turned_leaves d d' o now w w' certain beside schema history left None leaves = tt
-  turned_leaves d d' o now w w' certain beside schema history left (Some way) leaves = turned_points d d' o now w w' certain beside schema history left way leaves
+      → AllByRecursion (HasTables w.tier.schema) w.journal.flushed → AllByRecursion (HasTables w.tier.schema) w'.journal.flushed → Leaves state possible d d' (GivesEither w.tier.schema o w.journal.flushed w'.journal.flushed) → (way : Option Way) → LeavesOnWay state possible d o w way → LeavesOnWay state possible d' now w' (passed_by w.journal.flushed (length w.history) way)
+  turned_leaves d d' o now w w' certain beside schema history old_tables new_tables left None leaves = tt
+  turned_leaves d d' o now w w' certain beside schema history old_tables new_tables left (Some way) leaves = turned_points d d' o now w w' certain beside schema history old_tables new_tables left way leaves
 
   -- a way begins
   begun_points : (d : D) (t : TierJournal) (w : World) → w.moment ≡ (state d).moment → TellsSame (state d).held w.history → (over : IsOver state possible d t w) → LeavesPoints state possible d over.there (begun_here w) (record { since = w.moment; from = length w.history; past = [] })
@@ -171,6 +183,7 @@ module _ {D : Type 0} (state : D → SiteState) (possible : D → ℕ → Held �
               front = ap (λ (x : Held). x.history) is ∙ sym (take_whole over.there.history) ∙ ap (λ (n : ℕ). take n over.there.history) (sym long);
               early = w.tier.schema;
               becomes = no_more w.tier.schema;
+              tables = flushed_tables w.tier.schema t over.there.slots w.journal over.keeps;
               gives = subst (λ (x : Held). GivesEntries w.tier.schema x.slots w.journal.flushed) (sym is) (flushed_gives w.tier.schema t over.there.slots w.journal over.keeps);
             };
       }

@@ -1,6 +1,7 @@
 -- What a crash leaves on the way of a world's journal. (This project's model of disk and crash.)
 
 use Rattle.std.specs.Prelude.{◌≡◌, ℕ, ◌≤◌, List, ◌++◌, Option, Some, None, length, take}
+use Rattle.std.specs.List.{AllByRecursion}
 use Rattle.table_defs.specs.declared.definition.TableDef.{TableDef}
 use Rattle.table_state.specs.declared.history.Entry.{Entry}
 use Rattle.outside.specs.Holding.{Held}
@@ -9,14 +10,15 @@ use Rattle.cache_tier.specs.Journals.{JournalEntry, Way}
 use Rattle.cache_tier.specs.WayPoints.{IsPoint, turned_at}
 use Rattle.cache_tier.specs.Worlds.{World}
 use Rattle.tier_journal.specs.Leaving.{GivesEntries}
+use Rattle.tier_journal.specs.Writing.{HasTables}
 
 -- the schema was this one, or has become it
 pub record HasBecome (early schema : List TableDef) : Type 0 where
   pub more : List TableDef
   pub is : schema ≡ early ++ more
 
--- What is left is a point of the way: the slots give its entries, under a schema of the way, and the history is the
--- front of the present one that is so long.
+-- What is left is a point of the way: the slots give its entries, whose tables are those of a schema of the way, and
+-- the history is the front of the present one that is so long.
 pub record IsOnWay (schema : List TableDef) (way : Way) (flushed : List JournalEntry) (history : List Entry) (p : Held)
     : Type 0 where
   pub entries : List JournalEntry
@@ -26,6 +28,7 @@ pub record IsOnWay (schema : List TableDef) (way : Way) (flushed : List JournalE
   pub front : p.history ≡ take count history
   pub early : List TableDef
   pub becomes : HasBecome early schema
+  pub tables : AllByRecursion (HasTables early) entries
   pub gives : GivesEntries early p.slots entries
 
 -- at each moment since the way began a crash leaves a point of it

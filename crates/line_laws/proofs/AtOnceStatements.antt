@@ -36,7 +36,7 @@ use Rattle.line_laws.specs.Keeping.{KeepsJournalOf, MeetsIfAtOnce, MeetsNone, is
 use Rattle.line_laws.proofs.CommitStatements.{commits_later_kept}
 use Rattle.line_laws.proofs.FlushLaws.{IsWhole, kept_flushes}
 use Rattle.line_laws.proofs.OtherLaws.{others_pending, others_schema, others_tickets}
-use Rattle.line_laws.proofs.PartWords.{quiet_on, same_on, still_quiet, unshared_still}
+use Rattle.line_laws.proofs.PartWords.{IsBeside, quiet_on, same_on, still_quiet, unshared_still}
 
 module _ (s : Session) (w : World) (early : List Sealed) (stands : Stands w) (j : IsJournalled w early) (apart : IsUnshared w) (there : session_of w.tier s.label ≡ Some s) (meets : MeetsNone s w) where
   abbrev x : Sealed
@@ -54,18 +54,18 @@ module _ (s : Session) (w : World) (early : List Sealed) (stands : Stands w) (j 
     on = prepared m is
 
     -- nothing of the tier's came
-    without : (w' : World) (t : Tier) → Around w.shared (Grows []) w.history w'.history → w'.journal ≡ m.journal → w'.tier ≡ t → IsQuiet (with_ticket w.tier) t → IsJournalledOn w' early
-    without w' t a journal tier quiet =
+    without : (w' : World) (t : Tier) → Around w.shared (Grows []) w.history w'.history → IsBeside m w' → w'.tier ≡ t → IsQuiet (with_ticket w.tier) t → IsJournalledOn w' early
+    without w' t a beside tier quiet =
         let call : BankCall (Grows []) (record w { tier = with_ticket w.tier; journal = m.journal }) (record w { tier = w'.tier; history = w'.history; journal = m.journal }) =
         record { history = a; journal = refl; faults = omega arith; disk = refl; moment = omega arith; shared = refl } in
         let r = reads_kept (record w { tier = with_ticket w.tier; journal = m.journal }) (record w { tier = w'.tier; history = w'.history; journal = m.journal }) on.now on.is apart call (subst (IsQuiet (with_ticket w.tier)) (sym tier) quiet) in
-        one_journalled_on (record w { tier = w'.tier; history = w'.history; journal = m.journal }) w' early (record { tier = refl; history = refl; journal = journal })
+        one_journalled_on (record w { tier = w'.tier; history = w'.history; journal = m.journal }) w' early (record { tier = refl; history = refl; journal = beside.journal; shared = beside.shared ∙ is.shared })
         (on_then (record w { tier = w'.tier; history = w'.history; journal = m.journal }) early on.now on.more on.grows r)
 
     -- it came, whether the tier has been told or not
-    came : (w' : World) (t : Tier) (before middle behind : List Entry) → AreOthers w.shared w.history before → middle ≡ (w.history ++ before) ++ entry_of (sealed_own w.tier s) ∷ [] → AreOthers w.shared middle behind → w'.history ≡ middle ++ behind → w'.journal ≡ m.journal → w'.tier ≡ t
+    came : (w' : World) (t : Tier) (before middle behind : List Entry) → AreOthers w.shared w.history before → middle ≡ (w.history ++ before) ++ entry_of (sealed_own w.tier s) ∷ [] → AreOthers w.shared middle behind → w'.history ≡ middle ++ behind → IsBeside m w' → w'.tier ≡ t
         → IsToldAtOnce (sealed_own w.tier s) (with_ticket w.tier) t → IsJournalledOn w' early
-    came w' t before middle behind came_before own came_behind history journal tier told =
+    came w' t before middle behind came_before own came_behind history beside tier told =
         let first = others_kept (record w { tier = with_ticket w.tier; journal = m.journal }) on.now before (with_ticket w.tier) on.is apart came_before (still_quiet (with_ticket w.tier)) in
         let base : World = record w { tier = with_ticket w.tier; journal = m.journal; history = w.history ++ before } in
         let later = others_go_on w before stands apart came_before in
@@ -88,7 +88,7 @@ module _ (s : Session) (w : World) (early : List Sealed) (stands : Stands w) (j 
         let next : World = at_history ((w.history ++ before) ++ entry_of (sealed_own w.tier s) ∷ []) (record base { tier = t }) in
         let third = others_kept next second.now behind t second.is (unshared_still w next apart refl told.groups) (subst (λ l. AreOthers w.shared l behind) own came_behind) (still_quiet t) in
         let last : World = at_history (((w.history ++ before) ++ entry_of (sealed_own w.tier s) ∷ []) ++ behind) (record base { tier = t }) in
-        one_journalled_on last w' early (record { tier = tier; history = history ∙ ap (λ l. l ++ behind) own; journal = journal })
+        one_journalled_on last w' early (record { tier = tier; history = history ∙ ap (λ l. l ++ behind) own; journal = beside.journal; shared = beside.shared ∙ is.shared })
         (on_then last early on.now on.more on.grows (on_then last on.now first.now first.more first.grows (on_then last first.now second.now second.more second.grows third)))
 
     committed_told : IsToldAtOnce (sealed_own w.tier s) (with_ticket w.tier) (committed (sealed_own w.tier s) s.label (with_ticket w.tier))
@@ -103,18 +103,18 @@ module _ (s : Session) (w : World) (early : List Sealed) (stands : Stands w) (j 
     with_grows : (w' : World) (a : List Entry) (middle behind : List Entry) → AreOthers w.shared w.history a → Grows [] (w.history ++ a) middle → AreOthers w.shared middle behind → w'.history ≡ middle ++ behind → Around w.shared (Grows []) w.history w'.history
     with_grows w' a middle behind before own after is = record { before = a; middle = middle; behind = behind; came_before = before; own = own; came_behind = after; is = is }
 
-    applied_kept : (w' : World) (result : Result Applied BankError) → Around w.shared (AppliesOnce (sealed_own w.tier s) [] result) w.history w'.history → w'.journal ≡ m.journal → w'.tier ≡ after_applied (sealed_own w.tier s) s.label result (with_ticket w.tier) → IsJournalledOn w' early
-    applied_kept w' (Ok (Now receipt)) a journal tier = came w' (committed (sealed_own w.tier s) s.label (with_ticket w.tier)) a.before a.middle a.behind a.came_before a.own.0.grows a.came_behind a.is journal tier committed_told
-    applied_kept w' (Ok (Before receipt)) a journal tier = absurd (never_before a.middle receipt a.before a.came_before a.own)
-    applied_kept w' (Ok (NotReady ticket)) a journal tier = without w' (with_ticket w.tier) (with_grows w' a.before a.middle a.behind a.came_before a.own.3 a.came_behind a.is) journal tier (still_quiet (with_ticket w.tier))
-    applied_kept w' (Ok (Differs table key row)) a journal tier = without w' (with_ticket w.tier) (with_grows w' a.before a.middle a.behind a.came_before a.own.3 a.came_behind a.is) journal tier (still_quiet (with_ticket w.tier))
-    applied_kept w' (Err Memory) a journal tier = without w' (with_ticket w.tier) (with_grows w' a.before a.middle a.behind a.came_before a.own a.came_behind a.is) journal tier (still_quiet (with_ticket w.tier))
-    applied_kept w' (Err Failed) a journal tier = by a.own
+    applied_kept : (w' : World) (result : Result Applied BankError) → Around w.shared (AppliesOnce (sealed_own w.tier s) [] result) w.history w'.history → IsBeside m w' → w'.tier ≡ after_applied (sealed_own w.tier s) s.label result (with_ticket w.tier) → IsJournalledOn w' early
+    applied_kept w' (Ok (Now receipt)) a beside tier = came w' (committed (sealed_own w.tier s) s.label (with_ticket w.tier)) a.before a.middle a.behind a.came_before a.own.0.grows a.came_behind a.is beside tier committed_told
+    applied_kept w' (Ok (Before receipt)) a beside tier = absurd (never_before a.middle receipt a.before a.came_before a.own)
+    applied_kept w' (Ok (NotReady ticket)) a beside tier = without w' (with_ticket w.tier) (with_grows w' a.before a.middle a.behind a.came_before a.own.3 a.came_behind a.is) beside tier (still_quiet (with_ticket w.tier))
+    applied_kept w' (Ok (Differs table key row)) a beside tier = without w' (with_ticket w.tier) (with_grows w' a.before a.middle a.behind a.came_before a.own.3 a.came_behind a.is) beside tier (still_quiet (with_ticket w.tier))
+    applied_kept w' (Err Memory) a beside tier = without w' (with_ticket w.tier) (with_grows w' a.before a.middle a.behind a.came_before a.own a.came_behind a.is) beside tier (still_quiet (with_ticket w.tier))
+    applied_kept w' (Err Failed) a beside tier = by a.own
       where
         by : Grows [] (w.history ++ a.before) a.middle ⊎ Comes (sealed_own w.tier s) [] (w.history ++ a.before) a.middle → IsJournalledOn w' early
-        by (inl own) = without w' (after_applied (sealed_own w.tier s) s.label (Err Failed) (with_ticket w.tier)) (with_grows w' a.before a.middle a.behind a.came_before own a.came_behind a.is) journal tier
+        by (inl own) = without w' (after_applied (sealed_own w.tier s) s.label (Err Failed) (with_ticket w.tier)) (with_grows w' a.before a.middle a.behind a.came_before own a.came_behind a.is) beside tier
             (record { log = refl; next = omega arith; groups = alike_self w.tier.groups })
-        by (inr own) = came w' (after_applied (sealed_own w.tier s) s.label (Err Failed) (with_ticket w.tier)) a.before a.middle a.behind a.came_before own.grows a.came_behind a.is journal tier
+        by (inr own) = came w' (after_applied (sealed_own w.tier s) s.label (Err Failed) (with_ticket w.tier)) a.before a.middle a.behind a.came_before own.grows a.came_behind a.is beside tier
             (record { log = inl refl; next = omega arith; groups = alike_self w.tier.groups })
 
     now_kept : (w' : World) (reply : Reply) → AppliesNow (sealed_own w.tier s) s.label (record m { tier = with_ticket m.tier }) w' reply → IsJournalledOn w' early
@@ -122,7 +122,7 @@ module _ (s : Session) (w : World) (early : List Sealed) (stands : Stands w) (j 
         applied_kept w' q.result
         (subst (λ h. Around w.shared (AppliesOnce (sealed_own w.tier s) [] q.result) h w'.history) is.history
         (subst (λ sh. Around sh (AppliesOnce (sealed_own w.tier s) [] q.result) m.history w'.history) is.shared q.call.history))
-        q.call.journal (q.tier ∙ ap (λ (t : Tier). after_applied (sealed_own w.tier s) s.label q.result (with_ticket t)) is.tier)
+        (record { journal = q.call.journal; shared = q.call.shared }) (q.tier ∙ ap (λ (t : Tier). after_applied (sealed_own w.tier s) s.label q.result (with_ticket t)) is.tier)
 
   commits_now : (w' : World) (reply : Reply) → CommitsNow s w w' reply → tells code.JournalFault reply.last ≡ false → IsJournalledOn w' early
   commits_now w' reply q ok = by _ q

@@ -37,15 +37,15 @@ use Rattle.cache_tier.proofs.SessionLists.{none_passes}
 use Rattle.cache_tier.proofs.UnloadStatements.{map_nothing}
 use Rattle.tier_base.specs.declared.code.Code.TheVariants as code
 use Rattle.recovery.specs.Recalling.{group_of}
-use Rattle.recovery.specs.Journalled.{IsJournalled, IsJournalledOn, IsQuiet, with_commit_noted, with_flushed_entry}
+use Rattle.recovery.specs.Journalled.{AreAlike, IsJournalled, IsJournalledOn, IsQuiet, with_commit_noted, with_flushed_entry}
 use Rattle.recovery.proofs.CatalogLaws.{define_kept}
 use Rattle.recovery.proofs.DroppedLaws.{drop_kept}
-use Rattle.recovery.proofs.JournalledLaws.{commits_kept, flushes_kept}
+use Rattle.recovery.proofs.JournalledLaws.{alike_self, commits_kept, flushes_kept}
 use Rattle.recovery.proofs.NewestLaws.{NamesApart}
 use Rattle.recovery.proofs.OthersLaws.{on_then, one_journalled_on}
 use Rattle.line_laws.specs.Keeping.{Anything, HasNoWrites, KeepsJournalOf, KeepsJournalWhere, MayCreate, is_broken}
 use Rattle.line_laws.proofs.FlushLaws.{IsWhole, kept_flushes}
-use Rattle.line_laws.proofs.PartWords.{same_on, still_quiet}
+use Rattle.line_laws.proofs.PartWords.{same_on, still_quiet, unshared_still}
 use Rattle.line_laws.proofs.PlaceLaws.{none_at}
 use Rattle.line_laws.proofs.RoundLaws.{Rounded, round_goes}
 use Rattle.line_laws.proofs.TellingLaws.{names_apart, none, refused, some_flushes, whole}
@@ -70,7 +70,7 @@ recorded s w mid w' early stop j noted true q ok e =
     }) in
     let last = on_then (record before { journal = mid.journal }) early noted.now noted.more noted.grows on in (
       subst (λ x. IsJournalledOn x early) (sym e) (one_journalled_on (record before { journal = mid.journal }) (record mid { tier = committed_unsettled (sealed_own w.tier s) s.label mid.tier }) early
-          (record { tier = ap (λ (t : Tier). committed_unsettled (sealed_own w.tier s) s.label t) is.tier; history = is.history; journal = refl }) last),
+          (record { tier = ap (λ (t : Tier). committed_unsettled (sealed_own w.tier s) s.label t) is.tier; history = is.history; journal = refl; shared = is.shared }) last),
       f.1,
     )
 
@@ -97,7 +97,7 @@ commits_later_kept s w w' early reply stands j apart there p q ok = by _ q
 created : (d : CreateGroup) (tree : Tree) (w mid : World) (early : List Sealed) → Stands w → IsJournalled w early → definition_names w.tier.schema (definitions_of w.tier.groups) d ≡ None → IsNewGroup w (group_of w.tier d tree) → IsTreeOf (placed_tables w.tier.schema d) tree
     → IsWhole (Defines d (text_of d) ∷ []) w mid → IsJournalledOn (record mid { tier = with_new_group d tree mid.tier }) early
 created d tree w mid early stands j names new tree_is is =
-    one_journalled_on (with_flushed_entry (with_new_group d tree mid.tier) mid.journal w) (record mid { tier = with_new_group d tree mid.tier }) early (record { tier = refl; history = is.history; journal = refl })
+    one_journalled_on (with_flushed_entry (with_new_group d tree mid.tier) mid.journal w) (record mid { tier = with_new_group d tree mid.tier }) early (record { tier = refl; history = is.history; journal = refl; shared = is.shared })
     (define_kept w early d (text_of d) tree (with_new_group d tree mid.tier) mid.journal stands j tree_is names new
     (record { kept = is.journal.batch.kept ∙ j.kept; flushed = is.journal.batch.flushed; tail = is.journal.batch.tail; way = is.journal.way })
     (subst (λ t. IsQuiet (with_new_group d tree t) (with_new_group d tree mid.tier)) is.tier (still_quiet (with_new_group d tree mid.tier))))
@@ -168,13 +168,13 @@ may_drop s place g w early j may unlocked =
     (map_nothing locked_by (find (λ (r : Session). writes_on g r.own) (others s.label w.tier)) unlocked) in
     record { before = split.before; behind = split.behind; is = split.is; rest = split.rest; settled = may.settled; unwritten = λ t. owns_off g w.tier.sessions unwritten }
 
-drops_rest : (s : Session) (place : ℕ) (g : Group) (w w' : World) (early : List Sealed) (reply : Reply) → IsJournalled w early → MayGo s place g w → DropsRest s g w w' reply → tells code.JournalFault reply.last ≡ false → IsJournalledOn w' early
-drops_rest s place g w w' early reply j may q ok = by (drop_fault s g w) refl q
+drops_rest : (s : Session) (place : ℕ) (g : Group) (w w' : World) (early : List Sealed) (reply : Reply) → IsJournalled w early → IsUnshared w → MayGo s place g w → DropsRest s g w w' reply → tells code.JournalFault reply.last ≡ false → IsJournalledOn w' early
+drops_rest s place g w w' early reply j apart may q ok = by (drop_fault s g w) refl q
   where
     gone : (mid : World) → drop_fault s g w ≡ None → IsWhole (Drops g.def.name ∷ []) w mid → IsJournalledOn (record mid { tier = without_group g.def.name mid.tier }) early
     gone mid unlocked is =
-        one_journalled_on (with_flushed_entry (without_group g.def.name mid.tier) mid.journal w) (record mid { tier = without_group g.def.name mid.tier }) early (record { tier = refl; history = is.history; journal = refl })
-        (drop_kept w early g.def.name g (without_group g.def.name mid.tier) mid.journal may.stands j (may_drop s place g w early j may unlocked) (nat_list_eq_equiv.refl g.def.name)
+        one_journalled_on (with_flushed_entry (without_group g.def.name mid.tier) mid.journal w) (record mid { tier = without_group g.def.name mid.tier }) early (record { tier = refl; history = is.history; journal = refl; shared = is.shared })
+        (drop_kept w early g.def.name g (without_group g.def.name mid.tier) mid.journal may.stands j apart (may_drop s place g w early j may unlocked) (nat_list_eq_equiv.refl g.def.name)
         (record { kept = is.journal.batch.kept ∙ j.kept; flushed = is.journal.batch.flushed; tail = is.journal.batch.tail; way = is.journal.way })
         (subst (λ t. IsQuiet (without_group g.def.name t) (without_group g.def.name mid.tier)) is.tier (still_quiet (without_group g.def.name mid.tier))))
 
@@ -198,7 +198,7 @@ pub drops_kept : (s : Session) (name : List ℕ) → KeepsJournalOf s (HasNoWrit
 drops_kept s name w w' early reply stands j apart session rests q ok = by (is_writethrough q.group) refl q.does
   where
     by : (b : Bool) → is_writethrough q.group ≡ b → MatchBool b (Then Round (Tries (DropsRest s q.group)) w w' reply) (DropsRest s q.group w w' reply) → IsJournalledOn w' early
-    by false e d = drops_rest s q.place q.group w w' early reply j (record { stands = stands; session = session; rests = rests; there = q.is; settled = λ t. (let bad : false ≡ true = sym e ∙ t in Prim.cc) }) d ok
+    by false e d = drops_rest s q.place q.group w w' early reply j apart (record { stands = stands; session = session; rests = rests; there = q.is; settled = λ t. (let bad : false ≡ true = sym e ∙ t in Prim.cc) }) d ok
     by true e t = go t.stop t.first t.next
       where
         go : (stop : Option Reply) → Round w t.mid stop → Follows stop (Tries (DropsRest s q.group)) t.mid w' reply → IsJournalledOn w' early
@@ -223,5 +223,5 @@ drops_kept s name w w' early reply stands j apart session rests q ok = by (is_wr
             }
 
             last : Tries (DropsRest s q.group) t.mid w' reply → IsJournalledOn w' r.on.now
-            last (inl d) = drops_rest s q.place q.group t.mid w' r.on.now reply r.on.is may d ok
+            last (inl d) = drops_rest s q.place q.group t.mid w' r.on.now reply r.on.is (unshared_still w t.mid apart r.shared (subst (λ (x : Tier). AreAlike w.tier.groups x.groups) (sym r.tier) (alike_self w.tier.groups))) may d ok
             last (inr d) = same_on t.mid w' r.on.now d.0 r.on.is

@@ -1,5 +1,5 @@
 -- The console's writes, and the end of the input.
-use Rattle.std.proofs.Common.{◌≡◌, ◌⊎◌, inl, inr, ℕ, Bool, true, false, not, ◌&&◌, ◌||◌, nat_eq, Some, Result, Ok, Err, List, [], ◌∷◌, ◌++◌, map, refl, sym, ap, subst, ◌∙◌, append-nil, eq-eqb, eqb-true}
+use Rattle.std.proofs.Common.{◌≡◌, ◌⊎◌, inl, inr, ℕ, Bool, true, false, not, ◌&&◌, ◌||◌, nat_eq, Some, Result, Ok, Err, List, [], ◌∷◌, ◌++◌, refl, sym, ap, subst, ◌∙◌, append-nil, arith, eq-eqb, eqb-true}
 use Rattle.std.specs.Option.{IsSome, option_and_then}
 use Rattle.tier_base.specs.declared.number.TableId.{TableId}
 use Rattle.evaluator.specs.declared.change.Change.{Change}
@@ -31,9 +31,9 @@ use Rattle.cache_tier.specs.Worlds.{IsUnshared, World}
 use Rattle.cache_tier.proofs.GroupTables.{live_table}
 use Rattle.cache_tier.proofs.HistoryKeeps.{others_go_on}
 use Rattle.sql_query.specs.declared.write.Write.{Write}
-use Rattle.resolution.specs.Writes.{change_seen, resolved_writes}
 use Rattle.recovery.specs.Journalled.{IsJournalled, IsJournalledOn}
-use Rattle.recovery.proofs.OthersLaws.{on_then, one_journalled, one_journalled_on, others_kept}
+use Rattle.recovery.proofs.OthersLaws.{on_then, one_journalled_on, others_kept}
+use Rattle.recovery.proofs.SafeLaws.{grow_safe, reshared, safely, wayless, without_shared}
 use Rattle.line_laws.specs.Keeping.{AreOffLive, KeepsJournalAt, KeepsJournalWhere}
 use Rattle.line_laws.proofs.FlushLaws.{kept_flushes, tail_flushed}
 use Rattle.line_laws.proofs.OtherLaws.{others_schema}
@@ -92,7 +92,25 @@ abbrev pub DoesOffLive : List Change → World → Type 0
 DoesOffLive changes w =
     (ops : List Op) (rows : ℕ) (b s : TableState) → state_of w.history ≡ Some b → s.schema ≡ b.schema → IsDone changes ops rows s → are_off (live_tables (live_groups_of w.tier.groups)) ops ≡ true
 
-module _ (w w' : World) (early : List Sealed) (stands : Stands w) (j : IsJournalled w early) (apart : IsUnshared w) (changes : List Change) (off : DoesOffLive changes w) (tier : w'.tier ≡ w.tier) (journal : w'.journal ≡ w.journal) where
+-- it comes behind what came before, and the way that was asked for goes on
+console_comes : (w : World) (early : List Sealed) (ops : List Op) → IsJournalled w early → are_off (live_tables (live_groups_of w.tier.groups)) ops ≡ true → ((s : TableState) → state_of w.history ≡ Some s → IsSome (state_of (w.history ++ Foreign ops ∷ [])))
+    → IsJournalledOn (at_history (w.history ++ Foreign ops ∷ []) w) early
+console_comes w early ops j off leads = record {
+  now = bare.now;
+  is = safely (at_history (w.history ++ Foreign ops ∷ []) w) bare.now back (grow_safe w w.tier (Foreign ops) bare.now j.safe back (omega arith) (λ alone. alone));
+  more = bare.more;
+  grows = bare.grows;
+}
+  where
+    bare : IsJournalledOn (at_history (w.history ++ Foreign ops ∷ []) (reshared (own_tables ops) w)) early
+    bare =
+        others_kept (reshared (own_tables ops) w) early (Foreign ops ∷ []) w.tier (without_shared w (own_tables ops) early j)
+        (λ t e. sym (live_table w.tier.groups t) ∙ own_off (live_tables (live_groups_of w.tier.groups)) ops t off e) (on_own ops, leads, tt) (still_quiet w.tier)
+
+    back : IsJournalled (wayless (at_history (w.history ++ Foreign ops ∷ []) w)) bare.now
+    back = without_shared (at_history (w.history ++ Foreign ops ∷ []) (reshared (own_tables ops) w)) w.shared bare.now bare.is
+
+module _ (w w' : World) (early : List Sealed) (stands : Stands w) (j : IsJournalled w early) (apart : IsUnshared w) (changes : List Change) (off : DoesOffLive changes w) (tier : w'.tier ≡ w.tier) (journal : w'.journal ≡ w.journal) (shared : w'.shared ≡ w.shared) where
   came : (rows : ℕ) (before middle behind : List Entry) → AreOthers w.shared w.history before → Writes changes rows (w.history ++ before) middle → AreOthers w.shared middle behind → w'.history ≡ middle ++ behind → IsJournalledOn w' early
   came rows before middle behind came_before own came_behind history =
       let first = others_kept w early before w.tier j apart came_before (still_quiet w.tier) in
@@ -100,15 +118,12 @@ module _ (w w' : World) (early : List Sealed) (stands : Stands w) (j : IsJournal
       let over = st.flow.stand.over in
       let done = own.done over.backing over.leaves in
       let beside = off own.ops rows stands.flow.stand.over.backing over.backing stands.flow.stand.over.leaves (others_schema w.shared before w.history stands.flow.stand.over.backing over.backing stands.flow.stand.over.leaves came_before over.leaves) done in
-      let base : World = record w { history = w.history ++ before; shared = own_tables own.ops } in
-      let second = others_kept base first.now (Foreign own.ops ∷ []) w.tier (one_journalled (at_history (w.history ++ before) w) base first.now (record { tier = refl; history = refl; journal = refl }) first.is)
-      (λ t e. sym (live_table w.tier.groups t) ∙ own_off (live_tables (live_groups_of w.tier.groups)) own.ops t beside e)
-      (on_own own.ops, leads_to (w.history ++ before) own.ops over.backing done.left over.leaves done.applies, tt) (still_quiet w.tier) in
+      let second = console_comes (at_history (w.history ++ before) w) first.now own.ops first.is beside (leads_to (w.history ++ before) own.ops over.backing done.left over.leaves done.applies) in
       let next : World = at_history ((w.history ++ before) ++ Foreign own.ops ∷ []) w in
-      let third = others_kept next second.now behind w.tier (one_journalled (at_history ((w.history ++ before) ++ Foreign own.ops ∷ []) base) next second.now (record { tier = refl; history = refl; journal = refl }) second.is) apart
+      let third = others_kept next second.now behind w.tier second.is apart
       (subst (λ l. AreOthers w.shared l behind) own.grows came_behind) (still_quiet w.tier) in
       let last : World = at_history (((w.history ++ before) ++ Foreign own.ops ∷ []) ++ behind) w in
-      one_journalled_on last w' early (record { tier = tier; history = history ∙ ap (λ l. l ++ behind) own.grows; journal = journal })
+      one_journalled_on last w' early (record { tier = tier; history = history ∙ ap (λ l. l ++ behind) own.grows; journal = journal; shared = shared })
       (on_then last early first.now first.more first.grows (on_then last first.now second.now second.more second.grows third))
 
   without : (before middle behind : List Entry) → AreOthers w.shared w.history before → Grows [] (w.history ++ before) middle → AreOthers w.shared middle behind → w'.history ≡ middle ++ behind → IsJournalledOn w' early
@@ -117,7 +132,7 @@ module _ (w w' : World) (early : List Sealed) (stands : Stands w) (j : IsJournal
       let same : middle ≡ w.history ++ before = own ∙ append-nil (w.history ++ before) in
       let second = others_kept (at_history (w.history ++ before) w) first.now behind w.tier first.is apart (subst (λ l. AreOthers w.shared l behind) same came_behind) (still_quiet w.tier) in
       let last : World = at_history ((w.history ++ before) ++ behind) w in
-      one_journalled_on last w' early (record { tier = tier; history = history ∙ ap (λ l. l ++ behind) same; journal = journal }) (on_then last early first.now first.more first.grows second)
+      one_journalled_on last w' early (record { tier = tier; history = history ∙ ap (λ l. l ++ behind) same; journal = journal; shared = shared }) (on_then last early first.now first.more first.grows second)
 
   pub wrote : (result : Result Wrote BankError) → Around w.shared (WritesForeign changes result) w.history w'.history → IsJournalledOn w' early
   wrote (Ok (Rows n)) a = came n a.before a.middle a.behind a.came_before a.own a.came_behind a.is
@@ -131,4 +146,4 @@ module _ (w w' : World) (early : List Sealed) (stands : Stands w) (j : IsJournal
 
 pub console_kept : (writes : List Write) → KeepsJournalWhere (AreOffLive writes) (WritesAll writes)
 console_kept writes w w' early reply stands j apart off q ok =
-    wrote w w' early stands j apart q.changes (λ ops rows b s leaves same done. off q.changes ops rows b s q.stand_for leaves same done) q.tier q.call.journal q.result q.call.history
+    wrote w w' early stands j apart q.changes (λ ops rows b s leaves same done. off q.changes ops rows b s q.stand_for leaves same done) q.tier q.call.journal q.call.shared q.result q.call.history

@@ -32,6 +32,7 @@ use Rattle.cache_tier.specs.Worlds.{BankCall, IsUnshared, OnlyWhere, World}
 use Rattle.recovery.specs.Journalled.{AreAlike, IsJournalled, IsJournalledOn, IsQuiet}
 use Rattle.recovery.proofs.JournalledLaws.{alike_commit, alike_self, alike_trans}
 use Rattle.recovery.proofs.OthersLaws.{on_then, one_journalled_on, others_kept}
+use Rattle.recovery.proofs.LiveLaws.{unshared_back}
 use Rattle.recovery.proofs.SafeLaws.{still_safe}
 use Rattle.recovery.proofs.TablesLaws.{table_kept}
 use Rattle.line_laws.specs.Keeping.{KeepsJournalDue, KeepsJournalInDoubt, KeepsJournalWhere, KeepsJournalDue, RefersToNone, is_broken}
@@ -45,25 +46,25 @@ use Rattle.line_laws.proofs.RoundLaws.{round_goes}
 
 module _ (def : TableDef) (w w' : World) (early : List Sealed) (j : IsJournalled w early) (apart : IsUnshared w) (refers : RefersToNone def w) where
   -- the table is there, whether the tier has been told or not
-  defined : (before middle behind : List Entry) → AreOthers w.shared w.history before → middle ≡ (w.history ++ before) ++ Definition def ∷ [] → AreOthers w.shared middle behind → w'.history ≡ middle ++ behind → w'.journal ≡ w.journal → IsQuiet w.tier w'.tier → IsJournalledOn w' early
-  defined before middle behind came_before own came_behind history journal quiet =
+  defined : (before middle behind : List Entry) → AreOthers w.shared w.history before → middle ≡ (w.history ++ before) ++ Definition def ∷ [] → AreOthers w.shared middle behind → w'.history ≡ middle ++ behind → w'.journal ≡ w.journal → w'.shared ≡ w.shared → IsQuiet w.tier w'.tier → IsJournalledOn w' early
+  defined before middle behind came_before own came_behind history journal shared quiet =
       let first = others_kept w early before w.tier j apart came_before (still_quiet w.tier) in
       let base : World = at_history (w.history ++ before) w in
       let second = table_kept base first.now def w.tier first.is refers (still_quiet w.tier) in
       let next : World = at_history ((w.history ++ before) ++ Definition def ∷ []) w in
       let third = others_kept next second.now behind w'.tier second.is apart (subst (λ l. AreOthers w.shared l behind) own came_behind) quiet in
       let last : World = at_history (((w.history ++ before) ++ Definition def ∷ []) ++ behind) (record w { tier = w'.tier }) in
-      one_journalled_on last w' early (record { tier = refl; history = history ∙ ap (λ l. l ++ behind) own; journal = journal })
+      one_journalled_on last w' early (record { tier = refl; history = history ∙ ap (λ l. l ++ behind) own; journal = journal; shared = shared })
       (on_then last early first.now first.more first.grows (on_then last first.now second.now second.more second.grows third))
 
-  undefined : (before middle behind : List Entry) → AreOthers w.shared w.history before → Grows [] (w.history ++ before) middle → AreOthers w.shared middle behind → w'.history ≡ middle ++ behind → w'.journal ≡ w.journal → IsQuiet w.tier w'.tier → IsJournalledOn w' early
-  undefined before middle behind came_before own came_behind history journal quiet =
+  undefined : (before middle behind : List Entry) → AreOthers w.shared w.history before → Grows [] (w.history ++ before) middle → AreOthers w.shared middle behind → w'.history ≡ middle ++ behind → w'.journal ≡ w.journal → w'.shared ≡ w.shared → IsQuiet w.tier w'.tier → IsJournalledOn w' early
+  undefined before middle behind came_before own came_behind history journal shared quiet =
       let first = others_kept w early before w.tier j apart came_before (still_quiet w.tier) in
       let same : middle ≡ w.history ++ before = own ∙ append-nil (w.history ++ before) in
       let base : World = at_history (w.history ++ before) w in
       let second = others_kept base first.now behind w'.tier first.is apart (subst (λ l. AreOthers w.shared l behind) same came_behind) quiet in
       let last : World = at_history ((w.history ++ before) ++ behind) (record w { tier = w'.tier }) in
-      one_journalled_on last w' early (record { tier = refl; history = history ∙ ap (λ l. l ++ behind) same; journal = journal }) (on_then last early first.now first.more first.grows second)
+      one_journalled_on last w' early (record { tier = refl; history = history ∙ ap (λ l. l ++ behind) same; journal = journal; shared = shared }) (on_then last early first.now first.more first.grows second)
 
   after_quiet : (result : Result (Unit {0}) BankError) → IsQuiet w.tier (after_define def result w.tier)
   after_quiet (Ok done) = record { log = refl; next = omega arith; groups = alike_self w.tier.groups }
@@ -71,13 +72,13 @@ module _ (def : TableDef) (w w' : World) (early : List Sealed) (j : IsJournalled
   after_quiet (Err Memory) = still_quiet w.tier
 
   creates_table : (result : Result (Unit {0}) BankError) → BankCall (Defines def result) w w' → w'.tier ≡ after_define def result w.tier → IsJournalledOn w' early
-  creates_table (Ok done) c tier = defined c.history.before c.history.middle c.history.behind c.history.came_before c.history.own c.history.came_behind c.history.is c.journal (subst (IsQuiet w.tier) (sym tier) (after_quiet (Ok done)))
-  creates_table (Err Memory) c tier = undefined c.history.before c.history.middle c.history.behind c.history.came_before c.history.own c.history.came_behind c.history.is c.journal (subst (IsQuiet w.tier) (sym tier) (after_quiet (Err Memory)))
+  creates_table (Ok done) c tier = defined c.history.before c.history.middle c.history.behind c.history.came_before c.history.own c.history.came_behind c.history.is c.journal c.shared (subst (IsQuiet w.tier) (sym tier) (after_quiet (Ok done)))
+  creates_table (Err Memory) c tier = undefined c.history.before c.history.middle c.history.behind c.history.came_before c.history.own c.history.came_behind c.history.is c.journal c.shared (subst (IsQuiet w.tier) (sym tier) (after_quiet (Err Memory)))
   creates_table (Err Failed) c tier = by c.history.own
     where
       by : Grows [] (w.history ++ c.history.before) c.history.middle ⊎ Grows (Definition def ∷ []) (w.history ++ c.history.before) c.history.middle → IsJournalledOn w' early
-      by (inl own) = undefined c.history.before c.history.middle c.history.behind c.history.came_before own c.history.came_behind c.history.is c.journal (subst (IsQuiet w.tier) (sym tier) (after_quiet (Err Failed)))
-      by (inr own) = defined c.history.before c.history.middle c.history.behind c.history.came_before own c.history.came_behind c.history.is c.journal (subst (IsQuiet w.tier) (sym tier) (after_quiet (Err Failed)))
+      by (inl own) = undefined c.history.before c.history.middle c.history.behind c.history.came_before own c.history.came_behind c.history.is c.journal c.shared (subst (IsQuiet w.tier) (sym tier) (after_quiet (Err Failed)))
+      by (inr own) = defined c.history.before c.history.middle c.history.behind c.history.came_before own c.history.came_behind c.history.is c.journal c.shared (subst (IsQuiet w.tier) (sym tier) (after_quiet (Err Failed)))
 
 pub creates_table_kept : (def : TableDef) → KeepsJournalWhere (RefersToNone def) (Creates def)
 creates_table_kept def w w' early reply stands j apart refers q ok = creates_table def w w' early j apart refers q.result q.call q.tier
@@ -99,7 +100,7 @@ tie_kept w early t j same up alike = record {
   alike = alike_trans j.catalog.groups w.tier.groups t.groups j.alike alike;
   tie = same ∙ j.tie;
   next = let below = j.next in omega (arith, below, up);
-  safe = still_safe w t.next j.safe up;
+  safe = still_safe w t j.safe up (unshared_back w.shared w.tier.groups t.groups alike);
 }
 
 there_pending : (h : List Entry) (log : List Sealed) (s : Sealed) → has_ticket s.ticket.0 h ≡ true → pending h (log ++ s ∷ []) ≡ pending h log
@@ -131,7 +132,7 @@ left_answered d h t = by d.of
 
 asks_goes : (d : Doubt) (w w' : World) (early : List Sealed) (notes : List Note) (stop : Option Reply) → IsJournalled w early → IsUnshared w → AsksRecorded d w w' notes stop → IsJournalledOn w' early
 asks_goes d w w' early notes stop j apart q =
-    one_journalled_on (record base { tier = w'.tier }) w' early (record { tier = refl; history = refl; journal = refl })
+    one_journalled_on (record base { tier = w'.tier }) w' early (record { tier = refl; history = refl; journal = refl; shared = refl })
     (on_then (record base { tier = w'.tier }) early r.on.now r.on.more r.on.grows (stays_on (record base { tier = w'.tier }) r.on.now (tie_kept base r.on.now w'.tier r.on.is a.same a.next a.groups)))
   where
     base : World

@@ -63,5 +63,5 @@ kept_flushes entries w w' stop kept f ok = whole (subst (λ b. MatchBool b (Flus
 -- the tail alone
 pub tail_flushed : (w w' : World) (early : List Sealed) → IsJournalled w early → IsWhole [] w w' → IsJournalledOn w' early
 tail_flushed w w' early j is =
-    one_journalled_on (record w { journal = w'.journal }) w' early (record { tier = is.tier; history = is.history; journal = refl })
+    one_journalled_on (record w { journal = w'.journal }) w' early (record { tier = is.tier; history = is.history; journal = refl; shared = is.shared })
     (flushes_kept w early w'.journal j (record { kept = is.journal.batch.kept ∙ j.kept; flushed = is.journal.batch.flushed ∙ append-nil (given w.journal); tail = is.journal.batch.tail; way = is.journal.way }))

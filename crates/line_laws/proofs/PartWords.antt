@@ -14,7 +14,8 @@ use Rattle.cache_tier.specs.Steps.{tells}
 use Rattle.cache_tier.specs.TierStates.{Tier}
 use Rattle.cache_tier.specs.Worlds.{Answer, BankCall, Becomes, Follows, IsUnshared, OnlyWhere, Part, Passes, Refuses, Stage, StageFollows, Then, ThenStage, Tries, Unless, World}
 use Rattle.recovery.specs.Journalled.{AreAlike, IsJournalled, IsJournalledOn, IsQuiet}
-use Rattle.recovery.proofs.JournalledLaws.{alike_self, alike_table, quiet_kept}
+use Rattle.recovery.proofs.JournalledLaws.{alike_self, quiet_kept}
+use Rattle.recovery.proofs.LiveLaws.{alike_table}
 use Rattle.recovery.proofs.OthersLaws.{on_then, reads_kept}
 use Rattle.line_laws.specs.Keeping.{is_broken}
 
@@ -25,6 +26,11 @@ pub record Goes (Q : World → Type 0) (w' : World) (early : List Sealed) : Type
   pub on : IsJournalledOn w' early
   pub unshared : IsUnshared w'
   pub holds : Q w'
+
+-- the second world has the first one's journal, and others change the same tables
+pub record IsBeside (m w' : World) : Type 0 where
+  pub journal : w'.journal ≡ m.journal
+  pub shared : w'.shared ≡ m.shared
 
 abbrev pub GoesPart : (World → Type 0) → Part → Type 0
 GoesPart P part = (w w' : World) (early : List Sealed) (reply : Reply) → IsJournalled w early → IsUnshared w → P w → part w w' reply → tells code.JournalFault reply.last ≡ false → IsJournalledOn w' early

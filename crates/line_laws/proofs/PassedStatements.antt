@@ -41,7 +41,7 @@ use Rattle.recovery.proofs.OthersLaws.{on_then, one_journalled_on, others_kept, 
 use Rattle.line_laws.specs.Keeping.{IsOffLive, KeepsJournalWhere, is_broken}
 use Rattle.line_laws.proofs.FlushLaws.{IsWhole, kept_flushes}
 use Rattle.line_laws.proofs.OtherLaws.{others_schema, others_tickets}
-use Rattle.line_laws.proofs.PartWords.{same_on, still_quiet, unshared_still}
+use Rattle.line_laws.proofs.PartWords.{IsBeside, same_on, still_quiet, unshared_still}
 
 abbrev numbered : ℕ → List Op → Sealed
 numbered ticket ops = record { ticket = record { 0 = ticket }; ops = ops }
@@ -52,18 +52,18 @@ module _ (placed : PlacedChange) (w : World) (early : List Sealed) (stands : Sta
   on = number_kept w early (with_ticket w.tier) m.journal stands j (record { kept = is.journal.batch.kept ∙ j.kept; flushed = is.journal.batch.flushed; tail = is.journal.batch.tail; way = is.journal.way }) (still_quiet (with_ticket w.tier))
 
   -- nothing came
-  without : (w' : World) (t : Tier) (before middle behind : List Entry) → AreOthers w.shared w.history before → Grows [] (w.history ++ before) middle → AreOthers w.shared middle behind → w'.history ≡ middle ++ behind → w'.journal ≡ m.journal → w'.tier ≡ t → IsQuiet (with_ticket w.tier) t → IsJournalledOn w' early
-  without w' t before middle behind came_before own came_behind history journal tier quiet =
+  without : (w' : World) (t : Tier) (before middle behind : List Entry) → AreOthers w.shared w.history before → Grows [] (w.history ++ before) middle → AreOthers w.shared middle behind → w'.history ≡ middle ++ behind → IsBeside m w' → w'.tier ≡ t → IsQuiet (with_ticket w.tier) t → IsJournalledOn w' early
+  without w' t before middle behind came_before own came_behind history beside tier quiet =
       let call : BankCall (Grows []) (record w { tier = with_ticket w.tier; journal = m.journal }) (record w { tier = w'.tier; history = w'.history; journal = m.journal }) =
       record { history = record { before = before; middle = middle; behind = behind; came_before = came_before; own = own; came_behind = came_behind; is = history }; journal = refl; faults = omega arith; disk = refl; moment = omega arith; shared = refl } in
       let r = reads_kept (record w { tier = with_ticket w.tier; journal = m.journal }) (record w { tier = w'.tier; history = w'.history; journal = m.journal }) on.now on.is apart call (subst (IsQuiet (with_ticket w.tier)) (sym tier) quiet) in
-      one_journalled_on (record w { tier = w'.tier; history = w'.history; journal = m.journal }) w' early (record { tier = refl; history = refl; journal = journal })
+      one_journalled_on (record w { tier = w'.tier; history = w'.history; journal = m.journal }) w' early (record { tier = refl; history = refl; journal = beside.journal; shared = beside.shared ∙ is.shared })
       (on_then (record w { tier = w'.tier; history = w'.history; journal = m.journal }) early on.now on.more on.grows r)
 
   -- it came, whether the tier has been told or not
   came : (w' : World) (t : Tier) (change : Change) (ops : List Op) (rows : ℕ) (before middle behind : List Entry) → change_seen change ≡ placed → AreOthers w.shared w.history before → WritesOwn w.tier.next change ops rows (w.history ++ before) middle
-      → AreOthers w.shared middle behind → w'.history ≡ middle ++ behind → w'.journal ≡ m.journal → w'.tier ≡ t → IsToldAtOnce (numbered w.tier.next ops) (with_ticket w.tier) t → IsJournalledOn w' early
-  came w' t change ops rows before middle behind seen came_before own came_behind history journal tier told =
+      → AreOthers w.shared middle behind → w'.history ≡ middle ++ behind → IsBeside m w' → w'.tier ≡ t → IsToldAtOnce (numbered w.tier.next ops) (with_ticket w.tier) t → IsJournalledOn w' early
+  came w' t change ops rows before middle behind seen came_before own came_behind history still tier told =
       let first = others_kept (record w { tier = with_ticket w.tier; journal = m.journal }) on.now before (with_ticket w.tier) on.is apart came_before (still_quiet (with_ticket w.tier)) in
       let base : World = record w { tier = with_ticket w.tier; journal = m.journal; history = w.history ++ before } in
       let st = (others_go_on w before stands apart came_before).stands in
@@ -90,22 +90,22 @@ module _ (placed : PlacedChange) (w : World) (early : List Sealed) (stands : Sta
       let next : World = at_history ((w.history ++ before) ++ entry_of (numbered w.tier.next ops) ∷ []) (record base { tier = t }) in
       let third = others_kept next second.now behind t second.is (unshared_still w next apart refl told.groups) (subst (λ l. AreOthers w.shared l behind) own.grows came_behind) (still_quiet t) in
       let last : World = at_history (((w.history ++ before) ++ entry_of (numbered w.tier.next ops) ∷ []) ++ behind) (record base { tier = t }) in
-      one_journalled_on last w' early (record { tier = tier; history = history ∙ ap (λ l. l ++ behind) own.grows; journal = journal })
+      one_journalled_on last w' early (record { tier = tier; history = history ∙ ap (λ l. l ++ behind) own.grows; journal = still.journal; shared = still.shared ∙ is.shared })
       (on_then last early on.now on.more on.grows (on_then last on.now first.now first.more first.grows (on_then last first.now second.now second.more second.grows third)))
 
   rows_told : (ops : List Op) (t : Tier) → IsToldAtOnce (numbered w.tier.next ops) (with_ticket w.tier) (record (with_ticket w.tier) { log = w.tier.log ++ numbered w.tier.next ops ∷ [] })
   rows_told ops t = record { log = inr refl; next = omega arith; groups = alike_self w.tier.groups }
 
-  passed : (s : Session) (w' : World) (change : Change) (ops : List Op) → change_seen change ≡ placed → (result : Result Wrote BankError) → Around w.shared (PassesWrite w.tier.next change ops result) w.history w'.history → w'.journal ≡ m.journal → w'.tier ≡ after_passed s w.tier.next ops result (with_ticket w.tier) → IsJournalledOn w' early
-  passed s w' change ops seen (Ok (Rows n)) a journal tier = came w' (after_passed s w.tier.next ops (Ok (Rows n)) (with_ticket w.tier)) change ops n a.before a.middle a.behind seen a.came_before a.own a.came_behind a.is journal tier (rows_told ops w.tier)
-  passed s w' change ops seen (Ok (Broken rule)) a journal tier = without w' (with_ticket w.tier) a.before a.middle a.behind a.came_before a.own.0 a.came_behind a.is journal tier (still_quiet (with_ticket w.tier))
-  passed s w' change ops seen (Err Memory) a journal tier = without w' (with_ticket w.tier) a.before a.middle a.behind a.came_before a.own a.came_behind a.is journal tier (still_quiet (with_ticket w.tier))
-  passed s w' change ops seen (Err Failed) a journal tier = by a.own
+  passed : (s : Session) (w' : World) (change : Change) (ops : List Op) → change_seen change ≡ placed → (result : Result Wrote BankError) → Around w.shared (PassesWrite w.tier.next change ops result) w.history w'.history → IsBeside m w' → w'.tier ≡ after_passed s w.tier.next ops result (with_ticket w.tier) → IsJournalledOn w' early
+  passed s w' change ops seen (Ok (Rows n)) a beside tier = came w' (after_passed s w.tier.next ops (Ok (Rows n)) (with_ticket w.tier)) change ops n a.before a.middle a.behind seen a.came_before a.own a.came_behind a.is beside tier (rows_told ops w.tier)
+  passed s w' change ops seen (Ok (Broken rule)) a beside tier = without w' (with_ticket w.tier) a.before a.middle a.behind a.came_before a.own.0 a.came_behind a.is beside tier (still_quiet (with_ticket w.tier))
+  passed s w' change ops seen (Err Memory) a beside tier = without w' (with_ticket w.tier) a.before a.middle a.behind a.came_before a.own a.came_behind a.is beside tier (still_quiet (with_ticket w.tier))
+  passed s w' change ops seen (Err Failed) a beside tier = by a.own
     where
       by : Grows [] (w.history ++ a.before) a.middle ⊎ ((n : ℕ) × WritesOwn w.tier.next change ops n (w.history ++ a.before) a.middle) → IsJournalledOn w' early
-      by (inl own) = without w' (after_passed s w.tier.next ops (Err Failed) (with_ticket w.tier)) a.before a.middle a.behind a.came_before own a.came_behind a.is journal tier
+      by (inl own) = without w' (after_passed s w.tier.next ops (Err Failed) (with_ticket w.tier)) a.before a.middle a.behind a.came_before own a.came_behind a.is beside tier
           (record { log = refl; next = omega arith; groups = alike_self w.tier.groups })
-      by (inr own) = came w' (after_passed s w.tier.next ops (Err Failed) (with_ticket w.tier)) change ops own.0 a.before a.middle a.behind seen a.came_before own.1 a.came_behind a.is journal tier
+      by (inr own) = came w' (after_passed s w.tier.next ops (Err Failed) (with_ticket w.tier)) change ops own.0 a.before a.middle a.behind seen a.came_before own.1 a.came_behind a.is beside tier
           (record { log = inl refl; next = omega arith; groups = alike_self w.tier.groups })
 
   passed_on : (s : Session) (w' : World) (reply : Reply) → WritesPassed s w.tier.next placed (record m { tier = with_ticket m.tier }) w' reply → IsJournalledOn w' early
@@ -113,7 +113,7 @@ module _ (placed : PlacedChange) (w : World) (early : List Sealed) (stands : Sta
       passed s w' q.change q.ops q.stands_for q.result
       (subst (λ h. Around w.shared (PassesWrite w.tier.next q.change q.ops q.result) h w'.history) is.history
       (subst (λ sh. Around sh (PassesWrite w.tier.next q.change q.ops q.result) m.history w'.history) is.shared q.call.history))
-      q.call.journal (q.tier ∙ ap (λ (t : Tier). after_passed s w.tier.next q.ops q.result (with_ticket t)) is.tier)
+      (record { journal = q.call.journal; shared = q.call.shared }) (q.tier ∙ ap (λ (t : Tier). after_passed s w.tier.next q.ops q.result (with_ticket t)) is.tier)
 
 pub passes_on_kept : (s : Session) (placed : PlacedChange) → KeepsJournalWhere (IsOffLive placed) (PassesOn s placed)
 passes_on_kept s placed w w' early reply stands j apart off q ok = by _ q

@@ -78,7 +78,7 @@ pub record Rounded (w w' : World) (early : List Sealed) : Type 0 where
 
 pub applied : (w w' : World) (early : List Sealed) (stop : Option Reply) → Stands w → IsJournalled w early → IsUnshared w → w.journal.tail ≡ [] → Applies w w' stop → Rounded w w' early
 applied w w' early stop x j apart none a = record {
-  on = one_journalled_on (record base { tier = w'.tier }) w' early (record { tier = refl; history = refl; journal = a.journal })
+  on = one_journalled_on (record base { tier = w'.tier }) w' early (record { tier = refl; history = refl; journal = a.journal; shared = a.shared })
       (on_then (record base { tier = w'.tier }) early round.now round.more round.grows
       (stays_on (record base { tier = w'.tier }) round.now (quiet_kept base round.now w'.tier round.is quiet)));
   stands = stands_one (settled_to rest w.tier.now (at_history w'.history w)) w' a.tier refl
@@ -133,11 +133,11 @@ rotated w mid w' early turned r none q ok = by (is_long mid) refl q
     turn settled k = go k.result k.journal k.end
       where
         go : (result : Rotation) → w'.journal ≡ journal_after result mid → turned ≡ rotation_stop result → Rounded w w' early
-        go Renewed e s = from w' k.tier k.history k.shared (one_journalled_on (record mid { journal = w'.journal }) w' early (record { tier = k.tier; history = k.history; journal = refl })
+        go Renewed e s = from w' k.tier k.history k.shared (one_journalled_on (record mid { journal = w'.journal }) w' early (record { tier = k.tier; history = k.history; journal = refl; shared = k.shared })
             (on_then (record mid { journal = w'.journal }) early r.on.now r.on.more r.on.grows
             (rotation_kept mid r.on.now w'.journal r.stands r.on.is none settled
             (subst (Rattle.recovery.specs.Journalled.IsRenewed mid.tier (length mid.history) mid.journal) (sym e) (record { kept = r.on.is.kept; flushed = refl; tail = refl; way = refl })))))
-        go Kept e s = from w' k.tier k.history k.shared (one_journalled_on mid w' early (record { tier = k.tier; history = k.history; journal = e }) r.on)
+        go Kept e s = from w' k.tier k.history k.shared (one_journalled_on mid w' early (record { tier = k.tier; history = k.history; journal = e; shared = k.shared }) r.on)
         go Broken e s = let bad : true ≡ false = ap is_broken (sym s) ∙ ok in Prim.cc
 
     by : (b : Bool) → is_long mid ≡ b → OnlyWhere b Rotates mid w' turned → Rounded w w' early

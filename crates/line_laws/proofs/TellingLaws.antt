@@ -3,6 +3,7 @@ use Rattle.std.proofs.Common.{◌≡◌, ℕ, Bool, true, false, cond, ◌&&◌,
 use Rattle.std.specs.Bool.{MatchBool}
 use Rattle.std.proofs.lemmas.Bool.{lt-ltb}
 use Rattle.tier_base.specs.declared.code.Code.TheVariants as code
+use Rattle.tier_base.specs.declared.number.TableId.{TableId}
 use Rattle.table_state.specs.declared.history.Sealed.{Sealed}
 use Rattle.sql_subset.specs.declared.stmt.RefreshState.{RefreshState}
 use Rattle.sql_subset.specs.declared.stmt.RefreshState.TheVariants.{On, Off, Paused}
@@ -22,9 +23,11 @@ use Rattle.cache_tier.specs.Worlds.{Answer, Becomes, Follows, IsUnshared, OnlyWh
 use Rattle.recovery.specs.Journalled.{AreAlike, IsAlike, IsJournalled, IsJournalledOn, IsQuiet}
 use Rattle.recovery.specs.Recalling.{with_loaded}
 use Rattle.recovery.proofs.DroppedLaws.{alike_apart}
-use Rattle.recovery.proofs.JournalledLaws.{alike_kind, folded, flushes_kept, loaded_kept, quiet_kept, state_kept, turned}
+use Rattle.recovery.proofs.JournalledLaws.{alike_kind, folded, flushes_kept, loaded_kept, quiet_kept, state_kept, turned, turned_back}
+use Rattle.recovery.proofs.LiveLaws.{unshared_back}
 use Rattle.recovery.proofs.NewestLaws.{NamesApart}
 use Rattle.recovery.proofs.OthersLaws.{on_then, one_journalled_on}
+use Rattle.recovery.proofs.PointLaws.{StaysUnshared}
 use Rattle.recovery.proofs.SafeLaws.{flush_safe, safely, wayless, without_way}
 use Rattle.line_laws.specs.Keeping.{is_broken}
 use Rattle.line_laws.proofs.FlushLaws.{HasBatch, HasFlushed, IsWhole, kept_flushes}
@@ -54,6 +57,22 @@ told_next (Numbers n ∷ entries) t t' told = absurd told
 told_next (Marks n ∷ entries) t t' told = absurd told
 told_next (Defines d text ∷ entries) t t' told = absurd told
 told_next (Drops name ∷ entries) t t' told = absurd told
+
+-- what is unshared of it is so of the first
+told_back : (shared : List TableId) (entries : List JournalEntry) (t t' : Tier) → Told entries t t' → StaysUnshared shared t.groups t'.groups
+told_back shared [] t t' told = unshared_back shared t.groups t'.groups told.groups
+told_back shared (SetsState name state ∷ entries) t t' told =
+    λ alone. turned_back shared name (with_state state) (λ g. refl) t.groups (map (turned name (with_state state)) t.groups) (Rattle.recovery.proofs.JournalledLaws.alike_self (map (turned name (with_state state)) t.groups))
+    (told_back shared entries (with_group name (with_state state) t) t' told alone)
+told_back shared (SetsLoaded name flag ∷ entries) t t' told =
+    λ alone. turned_back shared name (with_loaded flag) (λ g. refl) t.groups (map (turned name (with_loaded flag)) t.groups) (Rattle.recovery.proofs.JournalledLaws.alike_self (map (turned name (with_loaded flag)) t.groups))
+    (told_back shared entries (with_group name (with_loaded flag) t) t' told alone)
+told_back shared (Commits s ∷ entries) t t' told = absurd told
+told_back shared (Prepares s ∷ entries) t t' told = absurd told
+told_back shared (Numbers n ∷ entries) t t' told = absurd told
+told_back shared (Marks n ∷ entries) t t' told = absurd told
+told_back shared (Defines d text ∷ entries) t t' told = absurd told
+told_back shared (Drops name ∷ entries) t t' told = absurd told
 
 -- the entries one by one, with no way asked for
 
@@ -100,7 +119,7 @@ told_kept entries w early t new j f told =
     let on = told_bare entries (wayless w) early t new refl (without_way w early j) (record { kept = f.batch.kept; flushed = f.batch.flushed; tail = f.batch.tail }) told in
     record {
       now = on.now;
-      is = safely (record w { tier = t; journal = new }) on.now on.is (flush_safe w t new on.now entries j.safe on.is (told_next entries w.tier t told) f.batch.flushed f.way);
+      is = safely (record w { tier = t; journal = new }) on.now on.is (flush_safe w t new on.now entries j.safe on.is (told_next entries w.tier t told) (told_back w.shared entries w.tier t told) f.batch.flushed f.way);
       more = on.more;
       grows = on.grows;
     }
@@ -135,7 +154,7 @@ IsOfTier P = (w w' : World) → w'.tier ≡ w.tier → P w → P w'
 
 whole_told : (P : World → Type 0) (entries : List JournalEntry) (change : World → Tier) (w mid : World) (early : List Sealed) → IsOfTier P → Tells P entries change → IsJournalled w early → P w → IsWhole entries w mid → IsJournalledOn (record mid { tier = change mid }) early
 whole_told P entries change w mid early of so j p is =
-    one_journalled_on (record w { tier = change mid; journal = mid.journal }) (record mid { tier = change mid }) early (record { tier = refl; history = is.history; journal = refl })
+    one_journalled_on (record w { tier = change mid; journal = mid.journal }) (record mid { tier = change mid }) early (record { tier = refl; history = is.history; journal = refl; shared = is.shared })
     (told_kept entries w early (change mid) mid.journal j is.journal
     (subst (λ t. Told entries t (change mid)) is.tier (so mid (of w mid is.tier p) (subst (λ (t : Tier). NamesApart t.groups) (sym is.tier) (names_apart w early j)))))
 

@@ -32,6 +32,7 @@ use Rattle.cache_tier.specs.Worlds.{World}
 use Rattle.recovery.specs.Journalled.{IsAwaited, IsFlushedWith, IsJournalled, IsJournalledOn, IsNumbered, IsPrepared, IsQuiet, IsToldAtOnce, with_flushed_entry}
 use Rattle.recovery.specs.Recalling.{RecallsAll, note_of, notes_of}
 use Rattle.recovery.proofs.JournalledLaws.{alike_trans, entry_journalled, fresh, given_is, le, matched, notes, on, seen}
+use Rattle.recovery.proofs.LiveLaws.{unshared_back}
 use Rattle.recovery.proofs.RoundedLaws.{leads_own}
 use Rattle.recovery.proofs.SafeLaws.{grow_safe, safely, wayless}
 
@@ -43,7 +44,7 @@ prepare_kept w early s t new stands j there is quiet =
     entry_journalled w early j (Prepares (sealed_own w.tier s)) new is
     (event_keeps (seen w early j) (with_flushed (crash.given (seen w early j) ++ Prepare (sealed_own w.tier s) ∷ []) (seen w early j)) early (prepares (sealed_own w.tier s) (le w early j s stands there) (on w early j s stands there)) j.stands)
     t (record (j.catalog) { next = next_with j.catalog.next (Prepares (sealed_own w.tier s)) }) refl (alike_trans j.catalog.groups w.tier.groups t.groups j.alike quiet.groups) quiet.log
-    (ap (λ b. if_stands b (sealed_own w.tier s)) (fresh w early j s stands there)) below (let up = quiet.next in omega (arith, up))
+    (ap (λ b. if_stands b (sealed_own w.tier s)) (fresh w early j s stands there)) below (let up = quiet.next in omega (arith, up)) (unshared_back w.shared w.tier.groups t.groups quiet.groups)
   where
     below : next_behind (given w.journal ++ Prepares (sealed_own w.tier s) ∷ []) ≤ t.next
     below =
@@ -167,7 +168,7 @@ module _ (w : World) (early : List Sealed) (j : IsJournalled w early) (s : Seale
     pub at_once_journalled : IsJournalledOn (at_history (w.history ++ entry_of s ∷ []) (record w { tier = t })) early
     at_once_journalled = record {
       now = kept.now;
-      is = safely then kept.now at_once_bare (grow_safe w t (entry_of s) kept.now j.safe at_once_bare told.next);
+      is = safely then kept.now at_once_bare (grow_safe w t (entry_of s) kept.now j.safe at_once_bare told.next (unshared_back w.shared w.tier.groups t.groups told.groups));
       more = kept.more;
       grows = kept.grows;
     }
@@ -191,7 +192,7 @@ number_kept w early t new stands j is quiet =
     entry_journalled w early j (Numbers w.tier.next) new is
     (event_keeps (seen w early j) (with_flushed (crash.given (seen w early j) ++ Number w.tier.next ∷ []) (seen w early j)) early (numbers w.tier.next under) j.stands)
     t (record (j.catalog) { next = next_with j.catalog.next (Numbers w.tier.next) }) refl (alike_trans j.catalog.groups w.tier.groups t.groups j.alike quiet.groups) quiet.log
-    (ap only_found (found_none w.tier.next w.history (stands.flow.stand.over.below w.tier.next (omega arith)))) below (let up = quiet.next in omega (arith, up))
+    (ap only_found (found_none w.tier.next w.history (stands.flow.stand.over.below w.tier.next (omega arith)))) below (let up = quiet.next in omega (arith, up)) (unshared_back w.shared w.tier.groups t.groups quiet.groups)
   where
     under : next_of (crash.given (seen w early j)) ≤ w.tier.next
     under = subst (λ n. n ≤ w.tier.next) (Rattle.recovery.proofs.RecalledLaws.next_is j.backing.schema w.history (given w.journal) (matched w early j) ∙ ap next_of (sym (given_is w early j))) j.next

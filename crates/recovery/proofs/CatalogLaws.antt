@@ -2,6 +2,7 @@
 use Rattle.std.proofs.Common.{◌≡◌, ℕ, ◌+◌, ◌≤◌, Bool, true, false, cond, not, ◌&&◌, ◌||◌, Option, Some, None, List, [], ◌∷◌, ◌++◌, length, map, refl, sym, ap, subst, ◌∙◌, arith}
 use Rattle.std.specs.List.{list_all, list_any}
 use Rattle.std.specs.Option.{option_and_then}
+use Rattle.std.proofs.lemmas.List.Folds.{list_any-append}
 use Rattle.tier_base.specs.declared.number.TableId.{TableId}
 use Rattle.table_state.specs.declared.history.Sealed.{Sealed}
 use Rattle.table_state.specs.declared.operation.Op.{Op}
@@ -33,6 +34,8 @@ use Rattle.recovery.specs.Journalled.{AreAlike, IsAlike, IsFlushedWith, IsJourna
 use Rattle.recovery.specs.Recalling.{IsDefined, group_of, written_tables}
 use Rattle.recovery.proofs.FoldLaws.{written}
 use Rattle.recovery.proofs.JournalledLaws.{alike_trans, below_same, entry_journalled, folded, given_is, live, notes, seen}
+use Rattle.recovery.specs.SafeWays.{AreUnshared}
+use Rattle.recovery.proofs.LiveLaws.{unshared_back}
 use Rattle.recovery.proofs.NewestLaws.{tie_has}
 
 -- ---- lists of tables
@@ -92,6 +95,14 @@ alike_last [] [] g h are one = (one, tt)
 alike_last (x ∷ gs) (y ∷ hs) g h are one = (are.0, alike_last gs hs g h are.1 one)
 alike_last [] (y ∷ hs) g h are one = absurd are
 alike_last (x ∷ gs) [] g h are one = absurd are
+
+-- what is unshared of more groups is so of the first of them
+front_unshared : (shared : List TableId) (gs hs : List Group) → AreUnshared shared (gs ++ hs) → AreUnshared shared gs
+front_unshared shared gs hs alone t e = left (is_table_of is_writethrough gs t) (is_table_of is_writethrough hs t) (sym (list_any-append (λ g. is_writethrough g && covers t g) gs hs) ∙ alone t e)
+  where
+    left : (a b : Bool) → (a || b) ≡ false → a ≡ false
+    left true b x = Prim.cc
+    left false b x = refl
 
 module _ (w : World) (early : List Sealed) (j : IsJournalled w early) (stands : between.Stands w) where
   -- what is committed over the backing database, as the laws of crashes see it
@@ -167,6 +178,7 @@ module _ (w : World) (early : List Sealed) (j : IsJournalled w early) (stands : 
         entry_journalled w early j (Defines d text) journal flushed kept t (with_new_group d tree j.catalog) recalled_as
         (alike_trans (j.catalog.groups ++ group_of j.catalog d tree ∷ []) (w.tier.groups ++ group ∷ []) t.groups (alike_last j.catalog.groups w.tier.groups (group_of j.catalog d tree) group j.alike alike_new) quiet.groups)
         quiet.log refl (below_same w early j (Defines d text) t.next (λ n. refl) quiet.next) quiet.next
+        (λ alone. front_unshared w.shared w.tier.groups (group ∷ []) (unshared_back w.shared (w.tier.groups ++ group ∷ []) t.groups quiet.groups alone))
 
 pub define_kept : (w : World) (early : List Sealed) (d : CreateGroup) (text : List ℕ) (tree : Tree) (t : Tier) (journal : Journal) → between.Stands w → IsJournalled w early → IsTreeOf (placed_tables w.tier.schema d) tree
     → definition_names w.tier.schema (definitions_of w.tier.groups) d ≡ None → IsNewGroup w (group_of w.tier d tree) → IsFlushedWith (Defines d text) (length w.history) w.journal journal → IsQuiet (with_new_group d tree w.tier) t → IsJournalledOn (with_flushed_entry t journal w) early

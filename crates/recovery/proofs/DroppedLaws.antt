@@ -19,7 +19,7 @@ use Rattle.cache_tier.specs.Journals.{Drops, Journal}
 use Rattle.cache_tier.specs.StandingBetween.{Each}
 use Rattle.cache_tier.specs.StandingBetween as between
 use Rattle.cache_tier.specs.TierStates.{Tier}
-use Rattle.cache_tier.specs.Worlds.{World}
+use Rattle.cache_tier.specs.Worlds.{IsUnshared, World}
 use Rattle.cache_tier.proofs.GroupTables.{each_last}
 use Rattle.recovery.specs.Journalled.{AreAlike, IsFlushedWith, IsJournalled, IsJournalledOn, IsQuiet, with_flushed_entry}
 use Rattle.recovery.proofs.CatalogLaws.{waiting_is}
@@ -143,7 +143,7 @@ each_free (x ∷ xs) name = (λ e. tt, each_free xs name)
 
 -- ---- the group is dropped
 
-module _ (w : World) (early : List Sealed) (j : IsJournalled w early) (stands : between.Stands w) (name : List ℕ) (g : Group) (may : MayDrop w name g) (called : is_called name g ≡ true) where
+module _ (w : World) (early : List Sealed) (j : IsJournalled w early) (stands : between.Stands w) (alone : IsUnshared w) (name : List ℕ) (g : Group) (may : MayDrop w name g) (called : is_called name g ≡ true) where
   abbrev names : List Named
   names = (catalog_of (notes w early j)).groups
 
@@ -201,8 +201,8 @@ module _ (w : World) (early : List Sealed) (j : IsJournalled w early) (stands : 
   drop_journalled t journal flushed quiet =
       entry_journalled w early j (Drops name) journal flushed kept t (without_group name j.catalog) refl
       (alike_trans (filter (λ k. not (is_called name k)) j.catalog.groups) (filter (λ k. not (is_called name k)) w.tier.groups) t.groups (alike_without name j.catalog.groups w.tier.groups j.alike) quiet.groups)
-      quiet.log refl (below_same w early j (Drops name) t.next (λ n. refl) quiet.next) quiet.next
+      quiet.log refl (below_same w early j (Drops name) t.next (λ n. refl) quiet.next) quiet.next (λ later. alone)
 
-pub drop_kept : (w : World) (early : List Sealed) (name : List ℕ) (g : Group) (t : Tier) (journal : Journal) → between.Stands w → IsJournalled w early → MayDrop w name g → is_called name g ≡ true → IsFlushedWith (Drops name) (length w.history) w.journal journal
+pub drop_kept : (w : World) (early : List Sealed) (name : List ℕ) (g : Group) (t : Tier) (journal : Journal) → between.Stands w → IsJournalled w early → IsUnshared w → MayDrop w name g → is_called name g ≡ true → IsFlushedWith (Drops name) (length w.history) w.journal journal
     → IsQuiet (without_group name w.tier) t → IsJournalledOn (with_flushed_entry t journal w) early
-drop_kept w early name g t journal stands j may called flushed quiet = drop_journalled w early j stands name g may called t journal flushed quiet
+drop_kept w early name g t journal stands j alone may called flushed quiet = drop_journalled w early j stands alone name g may called t journal flushed quiet

@@ -21,10 +21,10 @@ use Rattle.order_laws.proofs.TruthLaws.{both_true, same_some}
 use Rattle.recovery_laws.specs.Crashes.{Over, Stands, StandsOn, commits, flags, flushes, with_commit as with_seen_commit, with_flushed}
 use Rattle.recovery_laws.specs.Crashes as crash
 use Rattle.recovery_laws.specs.Matching.{IsMatched}
-use Rattle.recovery_laws.specs.Notes.{Commit, Flag, Note, catalog_of, empty_catalog, groups_of, log_in, next_of, told}
+use Rattle.recovery_laws.specs.Notes.{Commit, Flag, Note, catalog_of, groups_of, log_in, next_of, told}
 use Rattle.recovery_laws.proofs.CrashLaws.{event_keeps}
 use Rattle.recovery_laws.proofs.TieLaws.{tied_commit, tied_quiet}
-use Rattle.cache_tier.specs.CommitSteps.{sealed_own}
+use Rattle.cache_tier.specs.CommitSteps.{committed_unsettled, sealed_own}
 use Rattle.cache_tier.specs.AlterSteps.{with_state}
 use Rattle.cache_tier.specs.Groups.{Group, covers, defines_name, is_called, is_read_only, is_table_of, is_writethrough}
 use Rattle.sql_subset.specs.declared.stmt.RefreshState.{RefreshState}
@@ -40,22 +40,14 @@ use Rattle.cache_tier.specs.Worlds.{World}
 use Rattle.cache_tier.proofs.GroupTables.{through_on}
 use Rattle.recovery.specs.Journalled.{AreAlike, IsAlike, IsFlushed, IsFlushedWith, IsJournalled, IsJournalledOn, IsQuiet, seen_as, with_commit_noted, with_flushed_entry}
 use Rattle.recovery.specs.Recalling.{Recalls, RecallsAll, note_of, notes_of, state_number, with_loaded}
-use Rattle.recovery.proofs.FoldLaws.{IsFolded, folds}
-use Rattle.recovery.proofs.NewestLaws.{live_plain, newest_has, seconds}
+use Rattle.recovery.proofs.FoldLaws.{IsFolded}
+use Rattle.recovery.proofs.LiveLaws as now
+use Rattle.recovery.proofs.LiveLaws.{unshared_back}
+use Rattle.recovery.proofs.PointLaws.{StaysUnshared}
 use Rattle.recovery.proofs.RecalledLaws.{next_is}
 use Rattle.recovery.proofs.SafeLaws.{flush_safe, safely, still_safe, wayless}
 
 -- ---- entries
-
-pub commits_seen : (schema : List TableDef) (late : List Sealed) → notes_of schema (map Commits late) ≡ map Commit late
-commits_seen schema [] = refl
-commits_seen schema (s ∷ late) = ap (λ l. Commit s ∷ l) (commits_seen schema late)
-
--- all entries as the laws of crashes see them
-given_seen : (schema : List TableDef) (w : World) (early late : List Sealed) → w.journal.tail ≡ map Commits late → crash.given (seen_as schema w early late) ≡ notes_of schema (given w.journal)
-given_seen schema w early late tail =
-    ap (λ l. notes_of schema w.journal.flushed ++ l) (sym (commits_seen schema late) ∙ ap (notes_of schema) (sym tail))
-    ∙ sym (map-append (note_of schema) w.journal.flushed w.journal.tail)
 
 recalls_push : (entries : List JournalEntry) (e : JournalEntry) (t mid t' : Tier) → RecallsAll entries t mid → Recalls e mid t' → RecallsAll (entries ++ e ∷ []) t t'
 recalls_push [] e t mid t' all one = (t', subst (λ x. Recalls e x t') all one, refl)
@@ -81,16 +73,9 @@ found_through groups test (r ∷ ss) s e all = by (test r) e (both_true (are_wri
     by true e both rest = subst (λ (x : Session). are_written_through groups x.own ≡ true) (same_some e) both.0
     by false e both rest = rest e both.1
 
--- ---- the tables of the catalog
+-- ---- the groups of the catalog
 
-pub alike_table : (gs hs : List Group) (u : TableId) → AreAlike gs hs → is_table_of is_writethrough gs u ≡ is_table_of is_writethrough hs u
-alike_table [] [] u are = refl
-alike_table (g ∷ gs) (h ∷ hs) u are =
-    λ i. (is_writethrough (record g { def = sym are.0.def i }) && covers u (record g { def = sym are.0.def i })) || alike_table gs hs u are.1 i
-alike_table [] (h ∷ hs) u are = absurd are
-alike_table (g ∷ gs) [] u are = absurd are
-
--- and they have one kind
+-- groups that are alike have one kind
 pub alike_kind : (g h : Group) → IsAlike g h → is_read_only h ≡ is_read_only g
 alike_kind g h a = λ i. is_read_only (record h { def = a.def i })
 
@@ -148,6 +133,19 @@ alike_turned name change steady (g ∷ gs) (h ∷ hs) a = (
 alike_turned name change steady [] (h ∷ hs) a = absurd a
 alike_turned name change steady (g ∷ gs) [] a = absurd a
 
+-- a change that keeps definitions keeps the tables that are written through
+turned_tables : (name : List ℕ) (change : Group → Group) → ((g : Group) → (change g).def ≡ g.def) → (gs : List Group) (u : TableId) → is_table_of is_writethrough (map (turned name change) gs) u ≡ is_table_of is_writethrough gs u
+turned_tables name change same [] u = refl
+turned_tables name change same (g ∷ gs) u = λ i. by (is_called name g) i || turned_tables name change same gs u i
+  where
+    by : (b : Bool) → (is_writethrough (cond b (change g) g) && covers u (cond b (change g) g)) ≡ (is_writethrough g && covers u g)
+    by true = λ i. is_writethrough (record g { def = same g i }) && covers u (record g { def = same g i })
+    by false = refl
+
+pub turned_back : (shared : List TableId) (name : List ℕ) (change : Group → Group) → ((g : Group) → (change g).def ≡ g.def) → (gs hs : List Group) → AreAlike (map (turned name change) gs) hs → StaysUnshared shared gs hs
+turned_back shared name change same gs hs are alone u e =
+    sym (turned_tables name change same gs u) ∙ unshared_back shared (map (turned name change) gs) hs are alone u e
+
 module _ (w : World) (early : List Sealed) (j : IsJournalled w early) where
   abbrev pub schema : List TableDef
   schema = j.backing.schema
@@ -159,22 +157,17 @@ module _ (w : World) (early : List Sealed) (j : IsJournalled w early) where
   seen = seen_as schema w early j.late
 
   pub given_is : crash.given seen ≡ notes
-  given_is = given_seen schema w early j.late j.tail
+  given_is = now.given_is w early j
 
   pub matched : IsMatched notes w.history
-  matched = subst (λ l. IsMatched l w.history) given_is j.stands.matched
+  matched = now.matched w early j
 
   pub folded : IsFolded schema j.catalog (catalog_of notes)
-  folded =
-      folds schema w.history [] (given w.journal) (opened j.settings 0 schema) j.catalog empty_catalog
-      (record { schema_is = refl; idle = refl; pairs = refl; next = refl; each = tt; apart = tt; fresh = tt; names = tt }) matched.fits j.recalls
+  folded = now.folded w early j
 
   -- the tables of live groups are the tier's
   pub live : (u : TableId) → is_one_of (live_tables (groups_of notes)) u ≡ is_table_of is_writethrough w.tier.groups u
-  live u =
-      ap (λ l. is_one_of (live_tables l) u) (live_plain (catalog_of notes).groups ∙ ap seconds folded.pairs)
-      ∙ newest_has j.catalog.groups u
-      ∙ alike_table j.catalog.groups w.tier.groups u j.alike
+  live = now.live w early j
 
   -- a session's transaction commits
   module _ (s : Session) (stands : between.Stands w) (there : session_of w.tier s.label ≡ Some s) where
@@ -241,7 +234,7 @@ module _ (w : World) (early : List Sealed) (j : IsJournalled w early) where
         alike = alike_commit (no_rows (with_ticket w.tier)) s.own j.catalog.groups w.tier.groups j.alike;
         tie = tied_commit w.history w.tier.log notes x fresh j.tie ∙ sym (ap (λ l. pending w.history (log_in w.history l)) notes_then);
         next = subst (λ l. next_behind l ≤ w.tier.next + 1) (sym given_then) higher;
-        safe = still_safe w (w.tier.next + 1) j.safe (omega arith);
+        safe = still_safe w (committed_unsettled x s.label w.tier) j.safe (omega arith) (unshared_back w.shared w.tier.groups _ (alike_commit (no_rows (with_ticket w.tier)) s.own w.tier.groups w.tier.groups (alike_self w.tier.groups)));
       };
       more = kept.more;
       grows = kept.grows;
@@ -280,7 +273,7 @@ module _ (w : World) (early : List Sealed) (j : IsJournalled w early) where
     flush_journalled = record {
       now = flushed_on.now;
       is = safely (record w { journal = new }) flushed_on.now flush_bare
-          (flush_safe w w.tier new flushed_on.now [] j.safe flush_bare (omega arith) (is.flushed ∙ sym (append-nil (given w.journal))) is.way);
+          (flush_safe w w.tier new flushed_on.now [] j.safe flush_bare (omega arith) (λ alone. alone) (is.flushed ∙ sym (append-nil (given w.journal))) is.way);
       more = flushed_on.more;
       grows = flushed_on.grows;
     }
@@ -296,7 +289,7 @@ module _ (w : World) (early : List Sealed) (j : IsJournalled w early) where
     seen_with : crash.given seen ++ note_of schema e ∷ [] ≡ notes_of schema new.flushed
     seen_with = ap (λ l. l ++ note_of schema e ∷ []) given_is ∙ sym notes_with ∙ ap (notes_of schema) (sym is.flushed)
 
-    module _ (t catalog' : Tier) (one : Recalls e j.catalog catalog') (alike : AreAlike catalog'.groups t.groups) (log : t.log ≡ w.tier.log) (silent : told w.history (note_of schema e) ≡ []) (below : next_behind (given w.journal ++ e ∷ []) ≤ t.next) (up : w.tier.next ≤ t.next) where
+    module _ (t catalog' : Tier) (one : Recalls e j.catalog catalog') (alike : AreAlike catalog'.groups t.groups) (log : t.log ≡ w.tier.log) (silent : told w.history (note_of schema e) ≡ []) (below : next_behind (given w.journal ++ e ∷ []) ≤ t.next) (up : w.tier.next ≤ t.next) (back : StaysUnshared w.shared w.tier.groups t.groups) where
       entry_bare : IsJournalled (wayless (with_flushed_entry t new w)) kept_on.now
       entry_bare = record {
         kept = is.kept;
@@ -318,7 +311,7 @@ module _ (w : World) (early : List Sealed) (j : IsJournalled w early) where
       pub entry_journalled : IsJournalledOn (with_flushed_entry t new w) early
       entry_journalled = record {
         now = kept_on.now;
-        is = safely (with_flushed_entry t new w) kept_on.now entry_bare (flush_safe w t new kept_on.now (e ∷ []) j.safe entry_bare up is.flushed is.way);
+        is = safely (with_flushed_entry t new w) kept_on.now entry_bare (flush_safe w t new kept_on.now (e ∷ []) j.safe entry_bare up back is.flushed is.way);
         more = kept_on.more;
         grows = kept_on.grows;
       }
@@ -333,12 +326,14 @@ module _ (w : World) (early : List Sealed) (j : IsJournalled w early) where
       entry_journalled (SetsState name state) new is (event_keeps seen (with_flushed (crash.given seen ++ Flag name (state_number state) ∷ []) seen) early (flags name (state_number state)) j.stands)
       t (with_group name (with_state state) j.catalog) refl (alike_trans (map (turned name (with_state state)) j.catalog.groups) (map (turned name (with_state state)) w.tier.groups) t.groups (alike_turned name (with_state state) (state_steady state) j.catalog.groups w.tier.groups j.alike) quiet.groups)
       quiet.log refl (below_same (SetsState name state) t.next (λ n. refl) quiet.next) quiet.next
+      (turned_back w.shared name (with_state state) (λ g. refl) w.tier.groups t.groups quiet.groups)
 
   pub loaded_journalled : (name : List ℕ) (flag : Bool) (t : Tier) (new : Journal) → IsFlushedWith (SetsLoaded name flag) (length w.history) w.journal new → IsQuiet (with_group name (with_loaded flag) w.tier) t → IsJournalledOn (with_flushed_entry t new w) early
   loaded_journalled name flag t new is quiet =
       entry_journalled (SetsLoaded name flag) new is (event_keeps seen (with_flushed (crash.given seen ++ Flag name (cond flag 4 0) ∷ []) seen) early (flags name (cond flag 4 0)) j.stands)
       t (with_group name (with_loaded flag) j.catalog) refl (alike_trans (map (turned name (with_loaded flag)) j.catalog.groups) (map (turned name (with_loaded flag)) w.tier.groups) t.groups (alike_turned name (with_loaded flag) (loaded_steady flag) j.catalog.groups w.tier.groups j.alike) quiet.groups)
       quiet.log refl (below_same (SetsLoaded name flag) t.next (λ n. refl) quiet.next) quiet.next
+      (turned_back w.shared name (with_loaded flag) (λ g. refl) w.tier.groups t.groups quiet.groups)
 
   -- nothing that an entry tells changes
   pub quiet_journalled : (t : Tier) → IsQuiet w.tier t → IsJournalled (record w { tier = t }) early
@@ -355,7 +350,7 @@ module _ (w : World) (early : List Sealed) (j : IsJournalled w early) where
     alike = alike_trans j.catalog.groups w.tier.groups t.groups j.alike quiet.groups;
     tie = ap (pending w.history) quiet.log ∙ j.tie;
     next = let below = j.next in let up = quiet.next in omega (arith, below, up);
-    safe = still_safe w t.next j.safe quiet.next;
+    safe = still_safe w t j.safe quiet.next (unshared_back w.shared w.tier.groups t.groups quiet.groups);
   }
 
 pub quiet_kept : (w : World) (early : List Sealed) (t : Tier) → IsJournalled w early → IsQuiet w.tier t → IsJournalled (record w { tier = t }) early

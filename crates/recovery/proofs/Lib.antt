@@ -1,6 +1,7 @@
 pub mod NewestLaws
 pub mod FoldLaws
 pub mod RecalledLaws
+pub mod LiveLaws
 pub mod PointLaws
 pub mod SafeLaws
 pub mod JournalledLaws

@@ -34,6 +34,7 @@ use Rattle.recovery.specs.Journalled.{IsJournalled, IsJournalledOn, IsQuiet, see
 use Rattle.recovery.specs.Recalling.{RecallsAll, notes_of}
 use Rattle.recovery.proofs.JournalledLaws.{alike_self, alike_trans, given_is, live}
 use Rattle.recovery.specs.SafeWays.{IsSafeOn}
+use Rattle.recovery.proofs.LiveLaws.{live_flushed, unshared_back}
 use Rattle.recovery.proofs.PointLaws.{safe_step}
 use Rattle.recovery.proofs.RoundedLaws.{Steps, leads_foreign}
 use Rattle.recovery.proofs.SafeLaws.{flushed_below, still_safe}
@@ -107,11 +108,11 @@ module _ (w : World) (early : List Sealed) (j : IsJournalled w early) (apart : I
   flushed = notes_of schema w.journal.flushed
 
   abbrev Safe : List Entry → Type 0
-  Safe h = IsSafeOn w.tier.next w.journal.flushed h w.journal.way
+  Safe h = IsSafeOn w.tier.next w.tier.groups w.shared w.journal.flushed h w.journal.way
 
   end : GoesOn Safe flushed j.late schema (w.history ++ entries) w.tier.log (early ++ j.late) early
   end = goes_on Safe flushed j.late schema w.shared entries w.history w.tier.log (early ++ j.late) early
-      (λ h e b y leaves known m. safe_step w.tier.next w.journal.flushed schema w.journal.way (flushed_below w early j) h e b y leaves known m) j.safe j.stands
+      (λ h e b y leaves known m. safe_step w.tier.next w.tier.groups w.shared w.journal.flushed schema w.journal.way (flushed_below w early j) (λ alone u there. live_flushed w early j u ∙ alone u there) h e b y leaves known m) j.safe j.stands
       (ap (λ (x : TableState). x.schema) (same_some (sym j.stands.matched.leaves ∙ j.leaves)))
       (λ t e. ap (λ l. is_one_of (live_tables (groups_of l)) t) (given_is w early j) ∙ live w early j t ∙ apart t e)
       (j.tie ∙ ap (λ l. pending w.history (log_in w.history l)) (sym (given_is w early j))) are
@@ -134,7 +135,7 @@ module _ (w : World) (early : List Sealed) (j : IsJournalled w early) (apart : I
       tie = ap (pending (w.history ++ entries)) quiet.log ∙ end.tie
           ∙ ap (λ l. pending (w.history ++ entries) (log_in (w.history ++ entries) l)) (given_is w early j ∙ ap (λ s. notes_of s (given w.journal)) (sym end.schema_is));
       next = let below = j.next in let up = quiet.next in omega (arith, below, up);
-      safe = still_safe (record w { history = w.history ++ entries }) t.next end.holds quiet.next;
+      safe = still_safe (record w { history = w.history ++ entries }) t end.holds quiet.next (unshared_back w.shared w.tier.groups t.groups quiet.groups);
     };
     more = end.more;
     grows = end.grows;
@@ -145,14 +146,15 @@ others_kept w early entries t j apart are quiet = others_journalled w early j ap
 
 -- ---- what the journal has nothing to do with
 
--- worlds with one tier, one history and one journal
+-- worlds with one tier, one history and one journal, in which others change the same tables
 pub record AreOne (w w' : World) : Type 0 where
   pub tier : w'.tier ≡ w.tier
   pub history : w'.history ≡ w.history
   pub journal : w'.journal ≡ w.journal
+  pub shared : w'.shared ≡ w.shared
 
-rebuilt : (w : World) (bank disk moment : ℕ) (shared : List TableId) (early : List Sealed) → IsJournalled w early → IsJournalled (record w { bank_faults = bank; disk_faults = disk; moment = moment; shared = shared }) early
-rebuilt w bank disk moment shared early j = record {
+rebuilt : (w : World) (bank disk moment : ℕ) (early : List Sealed) → IsJournalled w early → IsJournalled (record w { bank_faults = bank; disk_faults = disk; moment = moment }) early
+rebuilt w bank disk moment early j = record {
   kept = j.kept;
   backing = j.backing;
   leaves = j.leaves;
@@ -173,7 +175,8 @@ one_journalled w w' early is j =
     subst (λ t. IsJournalled (record w' { tier = t }) early) (sym is.tier)
     (subst (λ h. IsJournalled (record w' { tier = w.tier; history = h }) early) (sym is.history)
     (subst (λ k. IsJournalled (record w' { tier = w.tier; history = w.history; journal = k }) early) (sym is.journal)
-    (rebuilt w w'.bank_faults w'.disk_faults w'.moment w'.shared early j)))
+    (subst (λ s. IsJournalled (record w' { tier = w.tier; history = w.history; journal = w.journal; shared = s }) early) (sym is.shared)
+    (rebuilt w w'.bank_faults w'.disk_faults w'.moment early j))))
 
 pub one_journalled_on : (w w' : World) (early : List Sealed) → AreOne w w' → IsJournalledOn w early → IsJournalledOn w' early
 one_journalled_on w w' early is j = record { now = j.now; is = one_journalled w w' j.now is j.is; more = j.more; grows = j.grows }
@@ -192,5 +195,5 @@ reads_kept w w' early j apart call quiet =
     let mid : World = at_history (w.history ++ a.before) w in
     let two = others_kept mid one.now a.behind w'.tier one.is apart (subst (λ l. AreOthers w.shared l a.behind) middle a.came_behind) quiet in
     one_journalled_on (at_history ((w.history ++ a.before) ++ a.behind) (record w { tier = w'.tier })) w' early
-    (record { tier = refl; history = a.is ∙ ap (λ l. l ++ a.behind) middle; journal = call.journal })
+    (record { tier = refl; history = a.is ∙ ap (λ l. l ++ a.behind) middle; journal = call.journal; shared = call.shared })
     (on_then (at_history ((w.history ++ a.before) ++ a.behind) (record w { tier = w'.tier })) early one.now one.more one.grows two)

@@ -5,20 +5,26 @@ use Rattle.std.proofs.Math.Nat.{le-max_left}
 use Rattle.std.proofs.lemmas.Bool.{cases_lt}
 use Rattle.std.proofs.lemmas.List.{length-append, take-append-le}
 use Rattle.std.proofs.lemmas.List.Sums.{fold-append}
+use Rattle.std.proofs.lemmas.Option.{same_Some}
+use Rattle.tier_base.specs.declared.number.TableId.{TableId}
 use Rattle.table_defs.specs.declared.definition.TableDef.{TableDef}
 use Rattle.table_state.specs.declared.history.Entry.{Entry}
 use Rattle.table_state.specs.declared.history.Entry.TheVariants.{Definition, Foreign, Own}
 use Rattle.table_state.specs.declared.history.Sealed.{Sealed}
+use Rattle.table_state.specs.Copies.{is_one_of}
 use Rattle.table_state.specs.Histories.{state_of}
 use Rattle.table_state.specs.Tables.{TableState}
+use Rattle.order_laws.specs.Standing.{live_tables}
+use Rattle.outside.specs.Others.{is_shared}
 use Rattle.recovery_laws.specs.Crashes.{Among}
 use Rattle.recovery_laws.specs.Matching.{IsMatched}
-use Rattle.recovery_laws.specs.Notes.{commits_in, found}
+use Rattle.recovery_laws.specs.Notes.{commits_in, found, groups_of}
 use Rattle.cache_tier.specs.Journals.{Commits, Defines, Drops, JournalEntry, Marks, Numbers, Prepares, SetsLoaded, SetsState, Stretch, Way, next_behind, next_with, passed_by}
 use Rattle.cache_tier.specs.WayPoints.{IsPoint, turned_at}
 use Rattle.recovery.specs.Recalling.{AreMatched, notes_of}
 use Rattle.cache_tier.specs.JournalWays.{first_of}
-use Rattle.recovery.specs.SafeWays.{EndBy, IsHeldIn, IsSafe, IsSafeOn, IsSafeWay, commits_of}
+use Rattle.cache_tier.specs.Groups.{Group}
+use Rattle.recovery.specs.SafeWays.{AreUnshared, EachPoint, EndBy, IsHeldIn, IsSafe, IsSafeOn, IsSafeWay, LeaveUnshared, commits_of}
 
 -- ---- points
 
@@ -134,122 +140,144 @@ rises n (e ∷ ys) = let one : n ≤ next_with n e = rise_one n e in let rest : 
 pub front_below : (xs ys : List JournalEntry) → next_behind xs ≤ next_behind (xs ++ ys)
 front_below xs ys = subst (λ n. next_behind xs ≤ n) (sym (fold-append next_with 1 xs ys)) (rises (next_behind xs) ys)
 
+-- ---- what holds at each point
+
+-- once something else is flushed
+turn_points : (holds : List JournalEntry → List Entry → Type 0) (way : Way) (flushed new : List JournalEntry) (h : List Entry) → EachPoint holds way flushed h → holds new h
+    → EachPoint holds (record { since = way.since; from = way.from; past = way.past ++ stretch_of flushed (length h) ∷ [] }) new h
+turn_points holds way flushed new h each now entries count p le =
+    elim (point_split way.from way.past flushed new (length h) (length h) entries count p) [
+      | inl old ↦ each entries count old le
+      | inr last ↦ at_end last
+    ]
+  where
+    at_end : (length h ≤ count) × (count ≤ length h) × (entries ≡ new) → holds entries (take count h)
+    at_end (low, high, is) =
+        let same : count ≡ length h = omega (arith, low, high) in
+        subst (λ n. holds entries n) (sym (ap (λ n. take n h) same ∙ take_whole h)) (subst (λ l. holds l h) (sym is) now)
+
+-- over a history with an entry more
+longer_points : (holds : List JournalEntry → List Entry → Type 0) (way : Way) (flushed : List JournalEntry) (h : List Entry) (e : Entry) → EndBy (length h) way.past → EachPoint holds way flushed h → holds flushed (h ++ e ∷ []) → EachPoint holds way flushed (h ++ e ∷ [])
+longer_points holds way flushed h e ended each now entries count p le =
+    elim (point_early way.from way.past flushed (length h) (length (h ++ e ∷ [])) entries count p) [
+      | inl old ↦ before old
+      | inr last ↦ at_last last
+    ]
+  where
+    size : length (h ++ e ∷ []) ≡ length h + 1
+    size = length-append h (e ∷ [])
+
+    before : IsPoint way.from way.past flushed (length h) entries count → holds entries (take count (h ++ e ∷ []))
+    before old =
+        let low : count ≤ length h = point_within way.from way.past flushed (length h) entries count ended old in
+        subst (λ n. holds entries n) (sym (take-append-le count h (e ∷ []) low)) (each entries count old low)
+
+    at_last : (length h < count) × (count ≤ length (h ++ e ∷ [])) × (entries ≡ flushed) → holds entries (take count (h ++ e ∷ []))
+    at_last (low, high, is) =
+        let one : length (h ++ e ∷ []) ≡ length h + 1 = size in
+        let same : count ≡ length (h ++ e ∷ []) = omega (arith, low, high, one) in
+        subst (λ n. holds entries n) (sym (ap (λ n. take n (h ++ e ∷ [])) same ∙ take_whole (h ++ e ∷ []))) (subst (λ l. holds l (h ++ e ∷ [])) (sym is) now)
+
+-- where the way begins
+begun_points : (holds : List JournalEntry → List Entry → Type 0) (moment : ℕ) (flushed : List JournalEntry) (h : List Entry) → holds flushed h → EachPoint holds (record { since = moment; from = length h; past = [] }) flushed h
+begun_points holds moment flushed h now entries count (low, high, is) le =
+    let same : count ≡ length h = omega (arith, low, le) in
+    subst (λ n. holds entries n) (sym (ap (λ n. take n h) same ∙ take_whole h)) (subst (λ l. holds l h) (sym is) now)
+
 -- ---- safe ways
 
-module _ (next later : ℕ) (flushed : List JournalEntry) (h : List Entry) (up : next ≤ later) where
+-- what is unshared of the second groups is so of the first
+abbrev pub StaysUnshared : List TableId → List Group → List Group → Type 0
+StaysUnshared shared gs hs = AreUnshared shared hs → AreUnshared shared gs
+
+module _ (next later : ℕ) (gs hs : List Group) (shared : List TableId) (flushed : List JournalEntry) (h : List Entry) (up : next ≤ later) (back : StaysUnshared shared gs hs) where
   -- the last point is what is flushed now
-  held_now : (way : Way) → IsSafeWay next flushed h way → later ≤ 2 ^ 63 → (s : Sealed) → IsHeldIn (first_of way.past flushed) (take way.from h) s → IsHeldIn flushed h s
+  held_now : (way : Way) → IsSafeWay next gs shared flushed h way → later ≤ 2 ^ 63 → (s : Sealed) → IsHeldIn (first_of way.past flushed) (take way.from h) s → IsHeldIn flushed h s
   held_now way y cap s x =
       subst (λ l. IsHeldIn flushed l s) (take_whole h)
       ((y.each (omega (arith, cap, up)) flushed (length h) (point_now way.from way.past flushed (length h) (length h) y.turned (omega arith)) (omega arith)).held s x)
 
-  still_way : (way : Way) → IsSafeWay next flushed h way → IsSafeWay later flushed h way
-  still_way way y = record { begun = y.begun; ended = y.ended; turned = y.turned; each = λ cap entries count p le. y.each (omega (arith, cap, up)) entries count p le }
+  still_way : (way : Way) → IsSafeWay next gs shared flushed h way → IsSafeWay later hs shared flushed h way
+  still_way way y = record {
+    begun = y.begun;
+    ended = y.ended;
+    turned = y.turned;
+    each = λ cap. y.each (omega (arith, cap, up));
+    apart = λ alone. y.apart (back alone);
+  }
 
   -- something else is flushed
-  module _ (new : List JournalEntry) (match : later ≤ 2 ^ 63 → AreMatched new h) (step : (s : Sealed) → IsHeldIn flushed h s → IsHeldIn new h s) (way : Way) (y : IsSafeWay next flushed h way) where
-    abbrev behind : List Stretch
-    behind = way.past ++ stretch_of flushed (length h) ∷ []
+  module _ (new : List JournalEntry) (match : later ≤ 2 ^ 63 → AreMatched new h) (free : AreUnshared shared hs → LeaveUnshared shared new h) (step : (s : Sealed) → IsHeldIn flushed h s → IsHeldIn new h s) (way : Way) (y : IsSafeWay next gs shared flushed h way) where
+    abbrev behind : Way
+    behind = record { since = way.since; from = way.from; past = way.past ++ stretch_of flushed (length h) ∷ [] }
 
-    abbrev SafeAt : List JournalEntry → List Entry → Type 0
-    SafeAt entries n = IsSafe (first_of way.past flushed) (take way.from h) entries n
-
-    at_end : later ≤ 2 ^ 63 → (entries : List JournalEntry) (count : ℕ) → (length h ≤ count) × (count ≤ length h) × (entries ≡ new) → IsSafe (first_of way.past flushed) (take way.from h) entries (take count h)
-    at_end cap entries count p =
-        let low : length h ≤ count = p.0 in
-        let high : count ≤ length h = p.1 in
-        let same : count ≡ length h = omega (arith, low, high) in
-        subst (λ n. SafeAt entries n) (sym (ap (λ n. take n h) same ∙ take_whole h))
-        (subst (λ l. SafeAt l h) (sym p.2) (record { matched = match cap; held = λ s x. step s (held_now way y cap s x) }))
-
-    turned_way : IsSafeWay later new h (record { since = way.since; from = way.from; past = behind })
+    turned_way : IsSafeWay later hs shared new h (record { since = way.since; from = way.from; past = way.past ++ stretch_of flushed (length h) ∷ [] })
     turned_way = record {
       begun = y.begun;
       ended = end_push (length h) way.past (stretch_of flushed (length h)) (omega arith) y.ended;
       turned = subst (λ n. n ≤ length h) (sym (turned_push way.from way.past (stretch_of flushed (length h)))) (omega arith);
-      each = λ cap entries count p le.
-          subst (λ f. IsSafe f (take way.from h) entries (take count h)) (sym (first_push way.past flushed new (length h)))
-          (elim (point_split way.from way.past flushed new (length h) (length h) entries count p) [
-            | inl old ↦ y.each (omega (arith, cap, up)) entries count old le
-            | inr now ↦ at_end cap entries count now
-          ]);
+      each = λ cap.
+          subst (λ f. EachPoint (IsSafe f (take way.from h)) behind new h) (sym (first_push way.past flushed new (length h)))
+          (turn_points (IsSafe (first_of way.past flushed) (take way.from h)) way flushed new h (y.each (omega (arith, cap, up)))
+          (record { matched = match cap; held = λ s x. step s (held_now way y cap s x) }));
+      apart = λ alone. turn_points (LeaveUnshared shared) way flushed new h (y.apart (back alone)) (free alone);
     }
 
   -- the history has an entry more
-  module _ (e : Entry) (match : later ≤ 2 ^ 63 → AreMatched flushed (h ++ e ∷ [])) (way : Way) (y : IsSafeWay next flushed h way) where
-    abbrev now : List Entry
-    now = h ++ e ∷ []
-
+  module _ (e : Entry) (match : later ≤ 2 ^ 63 → AreMatched flushed (h ++ e ∷ [])) (free : AreUnshared shared hs → LeaveUnshared shared flushed (h ++ e ∷ [])) (way : Way) (y : IsSafeWay next gs shared flushed h way) where
     size : length (h ++ e ∷ []) ≡ length h + 1
     size = length-append h (e ∷ [])
 
     within : length h ≤ length (h ++ e ∷ [])
-    within = omega (arith, size)
-
-    abbrev SafeIn : List JournalEntry → List Entry → Type 0
-    SafeIn entries n = IsSafe (first_of way.past flushed) (take way.from (h ++ e ∷ [])) entries n
+    within = let one : length (h ++ e ∷ []) ≡ length h + 1 = size in omega (arith, one)
 
     early_same : take way.from (h ++ e ∷ []) ≡ take way.from h
     early_same = take-append-le way.from h (e ∷ []) y.begun
 
-    before : later ≤ 2 ^ 63 → (entries : List JournalEntry) (count : ℕ) → IsPoint way.from way.past flushed (length h) entries count → IsSafe (first_of way.past flushed) (take way.from (h ++ e ∷ [])) entries (take count (h ++ e ∷ []))
-    before cap entries count p =
-        let low : count ≤ length h = point_within way.from way.past flushed (length h) entries count y.ended p in
-        subst (λ n. SafeIn entries n) (sym (take-append-le count h (e ∷ []) low))
-        (subst (λ b. IsSafe (first_of way.past flushed) b entries (take count h)) (sym early_same) (y.each (omega (arith, cap, up)) entries count p low))
-
-    at_last : later ≤ 2 ^ 63 → (entries : List JournalEntry) (count : ℕ) → (length h < count) × (count ≤ length (h ++ e ∷ [])) × (entries ≡ flushed) → IsSafe (first_of way.past flushed) (take way.from (h ++ e ∷ [])) entries (take count (h ++ e ∷ []))
-    at_last cap entries count p =
-        let low : length h < count = p.0 in
-        let high : count ≤ length (h ++ e ∷ []) = p.1 in
-        let one : length (h ++ e ∷ []) ≡ length h + 1 = size in
-        let same : count ≡ length (h ++ e ∷ []) = omega (arith, low, high, one) in
-        subst (λ n. SafeIn entries n) (sym (ap (λ n. take n (h ++ e ∷ [])) same ∙ take_whole (h ++ e ∷ [])))
-        (subst (λ l. SafeIn l (h ++ e ∷ [])) (sym p.2)
-        (subst (λ b. IsSafe (first_of way.past flushed) b flushed (h ++ e ∷ [])) (sym early_same) (record { matched = match cap; held = λ s x. held_longer flushed h (e ∷ []) s (held_now way y cap s x) })))
-
-    longer_way : IsSafeWay later flushed (h ++ e ∷ []) way
+    longer_way : IsSafeWay later hs shared flushed (h ++ e ∷ []) way
     longer_way = record {
       begun = let low = y.begun in let more = within in omega (arith, low, more);
       ended = end_later (length h) (length (h ++ e ∷ [])) way.past within y.ended;
       turned = let low = y.turned in let more = within in omega (arith, low, more);
-      each = λ cap entries count p le. elim (point_early way.from way.past flushed (length h) (length (h ++ e ∷ [])) entries count p) [
-        | inl old ↦ before cap entries count old
-        | inr last ↦ at_last cap entries count last
-      ];
+      each = λ cap.
+          longer_points (IsSafe (first_of way.past flushed) (take way.from (h ++ e ∷ []))) way flushed h e y.ended
+          (subst (λ b. EachPoint (IsSafe (first_of way.past flushed) b) way flushed h) (sym early_same) (y.each (omega (arith, cap, up))))
+          (subst (λ b. IsSafe (first_of way.past flushed) b flushed (h ++ e ∷ [])) (sym early_same) (record { matched = match cap; held = λ s x. held_longer flushed h (e ∷ []) s (held_now way y cap s x) }));
+      apart = λ alone. longer_points (LeaveUnshared shared) way flushed h e y.ended (y.apart (back alone)) (free alone);
     }
 
   -- ---- where a way is asked for
 
-  pub safe_still : (way : Option Way) → IsSafeOn next flushed h way → IsSafeOn later flushed h way
+  pub safe_still : (way : Option Way) → IsSafeOn next gs shared flushed h way → IsSafeOn later hs shared flushed h way
   safe_still None y = tt
   safe_still (Some way) y = still_way way y
 
-  pub safe_turned : (new : List JournalEntry) → (later ≤ 2 ^ 63 → AreMatched new h) → ((s : Sealed) → IsHeldIn flushed h s → IsHeldIn new h s) → (way : Option Way) → IsSafeOn next flushed h way → IsSafeOn later new h (passed_by flushed (length h) way)
-  safe_turned new match step None y = tt
-  safe_turned new match step (Some way) y = turned_way new match step way y
+  pub safe_turned : (new : List JournalEntry) → (later ≤ 2 ^ 63 → AreMatched new h) → (AreUnshared shared hs → LeaveUnshared shared new h) → ((s : Sealed) → IsHeldIn flushed h s → IsHeldIn new h s) → (way : Option Way) → IsSafeOn next gs shared flushed h way
+      → IsSafeOn later hs shared new h (passed_by flushed (length h) way)
+  safe_turned new match free step None y = tt
+  safe_turned new match free step (Some way) y = turned_way new match free step way y
 
-  pub safe_longer : (e : Entry) → (later ≤ 2 ^ 63 → AreMatched flushed (h ++ e ∷ [])) → (way : Option Way) → IsSafeOn next flushed h way → IsSafeOn later flushed (h ++ e ∷ []) way
-  safe_longer e match None y = tt
-  safe_longer e match (Some way) y = longer_way e match way y
+  pub safe_longer : (e : Entry) → (later ≤ 2 ^ 63 → AreMatched flushed (h ++ e ∷ [])) → (AreUnshared shared hs → LeaveUnshared shared flushed (h ++ e ∷ [])) → (way : Option Way) → IsSafeOn next gs shared flushed h way → IsSafeOn later hs shared flushed (h ++ e ∷ []) way
+  safe_longer e match free None y = tt
+  safe_longer e match free (Some way) y = longer_way e match free way y
 
 -- an entry more that the same notes match
-pub safe_step : (next : ℕ) (flushed : List JournalEntry) (schema : List TableDef) (way : Option Way) → next_behind flushed ≤ next → (h : List Entry) (e : Entry) (b : TableState) → IsSafeOn next flushed h way → state_of (h ++ e ∷ []) ≡ Some b → b.schema ≡ schema
-    → IsMatched (notes_of schema flushed) (h ++ e ∷ []) → IsSafeOn next flushed (h ++ e ∷ []) way
-safe_step next flushed schema way below h e b y leaves known m =
-    safe_longer next next flushed h (omega arith) e
-    (λ cap. record { backing = b; leaves = leaves; matched = subst (λ z. IsMatched (notes_of z flushed) (h ++ e ∷ [])) (sym known) m; last = omega (arith, below, cap) }) way y
+pub safe_step : (next : ℕ) (gs : List Group) (shared : List TableId) (flushed : List JournalEntry) (schema : List TableDef) (way : Option Way) → next_behind flushed ≤ next
+    → (AreUnshared shared gs → (u : TableId) → is_shared shared u ≡ true → is_one_of (live_tables (groups_of (notes_of schema flushed))) u ≡ false)
+    → (h : List Entry) (e : Entry) (b : TableState) → IsSafeOn next gs shared flushed h way → state_of (h ++ e ∷ []) ≡ Some b → b.schema ≡ schema
+    → IsMatched (notes_of schema flushed) (h ++ e ∷ []) → IsSafeOn next gs shared flushed (h ++ e ∷ []) way
+safe_step next gs shared flushed schema way below free h e b y leaves known m =
+    safe_longer next next gs gs shared flushed h (omega arith) (λ alone. alone) e
+    (λ cap. record { backing = b; leaves = leaves; matched = subst (λ z. IsMatched (notes_of z flushed) (h ++ e ∷ [])) (sym known) m; last = omega (arith, below, cap) })
+    (λ alone s told u there. ap (λ (z : List TableDef). is_one_of (live_tables (groups_of (notes_of z flushed))) u) (ap (λ (x : TableState). x.schema) (same_Some s b (sym told ∙ leaves)) ∙ known) ∙ free alone u there) way y
 
 -- a way that begins now
-pub safe_begun : (next moment : ℕ) (flushed : List JournalEntry) (h : List Entry) → (next ≤ 2 ^ 63 → AreMatched flushed h) → IsSafeWay next flushed h (record { since = moment; from = length h; past = [] })
-safe_begun next moment flushed h match = record {
+pub safe_begun : (next : ℕ) (gs : List Group) (shared : List TableId) (moment : ℕ) (flushed : List JournalEntry) (h : List Entry) → (next ≤ 2 ^ 63 → AreMatched flushed h) → (AreUnshared shared gs → LeaveUnshared shared flushed h)
+    → IsSafeWay next gs shared flushed h (record { since = moment; from = length h; past = [] })
+safe_begun next gs shared moment flushed h match free = record {
   begun = omega arith;
   ended = tt;
   turned = omega arith;
-  each = λ cap entries count p le.
-      let low : length h ≤ count = p.0 in
-      let same : count ≡ length h = omega (arith, low, le) in
-      subst (λ n. IsSafe flushed (take (length h) h) entries n) (ap (λ n. take n h) (sym same))
-      (subst (λ l. IsSafe flushed (take (length h) h) l (take (length h) h)) (sym p.2)
-      (record { matched = subst (AreMatched flushed) (sym (take_whole h)) (match cap); held = λ s x. x }));
+  each = λ cap. begun_points (IsSafe flushed (take (length h) h)) moment flushed h (record { matched = match cap; held = λ s x. subst (λ b. IsHeldIn flushed b s) (take_whole h) x });
+  apart = λ alone. begun_points (LeaveUnshared shared) moment flushed h (free alone);
 }

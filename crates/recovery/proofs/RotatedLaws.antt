@@ -34,7 +34,8 @@ use Rattle.cache_tier.specs.Worlds.{World}
 use Rattle.recovery.specs.Journalled.{AreAlike, IsJournalled, IsJournalledOn, IsRenewed}
 use Rattle.recovery.specs.Recalling.{RecallsAll, note_of, notes_of, state_number}
 use Rattle.recovery.proofs.FoldLaws.{IsFolded, written}
-use Rattle.recovery.proofs.JournalledLaws.{alike_kind, alike_trans, commits_seen, folded, given_is, matched, notes, seen}
+use Rattle.recovery.proofs.JournalledLaws.{alike_kind, alike_trans, folded, given_is, matched, notes, seen}
+use Rattle.recovery.proofs.LiveLaws.{commits_seen}
 use Rattle.recovery.proofs.NewestLaws.{Pair, newest, pair, plain, tie}
 use Rattle.recovery.proofs.RecalledLaws.{next_is}
 use Rattle.recovery.specs.SafeWays.{IsHeldIn}
@@ -297,7 +298,7 @@ module _ (w : World) (early : List Sealed) (j : IsJournalled w early) (stands : 
   pub rotation_journalled : IsJournalledOn (record w { journal = new }) early
   rotation_journalled = record {
     now = kept_on.now;
-    is = safely (record w { journal = new }) kept_on.now rotation_bare (turn_safe w w.tier new kept_on.now j.safe rotation_bare (omega arith) holds is.way);
+    is = safely (record w { journal = new }) kept_on.now rotation_bare (turn_safe w w.tier new kept_on.now j.safe rotation_bare (omega arith) (λ alone. alone) holds is.way);
     more = kept_on.more;
     grows = kept_on.grows;
   }

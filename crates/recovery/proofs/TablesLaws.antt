@@ -35,7 +35,8 @@ use Rattle.cache_tier.proofs.TableLaws.{covered_defined}
 use Rattle.recovery.specs.Journalled.{IsJournalled, IsJournalledOn, IsQuiet}
 use Rattle.recovery.specs.Recalling.{RecallsAll, notes_of}
 use Rattle.recovery.proofs.FoldLaws.{IsFolded}
-use Rattle.recovery.proofs.JournalledLaws.{alike_table, alike_trans, folded, given_is, live, notes, seen}
+use Rattle.recovery.proofs.JournalledLaws.{alike_trans, folded, given_is, live, notes, seen}
+use Rattle.recovery.proofs.LiveLaws.{alike_table, unshared_back}
 use Rattle.recovery.proofs.LongerLaws.{all_later, longer, notes_later}
 use Rattle.recovery.proofs.SafeLaws.{grow_safe, safely, wayless}
 
@@ -158,7 +159,7 @@ module _ (w : World) (early : List Sealed) (j : IsJournalled w early) (def : Tab
     pub table_journalled : IsJournalledOn (at_history (w.history ++ Definition def ∷ []) (record w { tier = t })) early
     table_journalled = record {
       now = kept.now;
-      is = safely (at_history (w.history ++ Definition def ∷ []) (record w { tier = t })) kept.now table_bare (grow_safe w t (Definition def) kept.now j.safe table_bare quiet.next);
+      is = safely (at_history (w.history ++ Definition def ∷ []) (record w { tier = t })) kept.now table_bare (grow_safe w t (Definition def) kept.now j.safe table_bare quiet.next (unshared_back w.shared w.tier.groups t.groups quiet.groups));
       more = kept.more;
       grows = kept.grows;
     }

@@ -55,7 +55,8 @@ pub fn recalled_law()
 /// change no table of a live writethrough group, as in a call of the bank that reads (`others`, `reads`), where a table
 /// is defined whose foreign key refers to no table of such a group, whether the tier has been told or not (`tables`),
 /// where a slot is begun anew and nothing is unsettled (`rotates`), and where the tier changes in what no entry tells
-/// (`quiet`). What was held is held, and each point of the journal's way is safe (`HasSafeWay`).
+/// (`quiet`). What was held is held, and each point of the journal's way is safe (`HasSafeWay`). Where a group is
+/// dropped it is asked that others change no table of a live writethrough group.
 pub fn journalled_law()
     ensures commits { (w : World) (early : List Sealed) (s : Session) → Stands w → IsJournalled w early
         → session_of w.tier s.label ≡ Some s → IsJournalledOn (with_commit_noted s w) early }
@@ -67,7 +68,7 @@ pub fn journalled_law()
         → IsNewGroup w (group_of w.tier d tree) → IsFlushedWith (Defines d text) (length w.history) w.journal new
         → IsQuiet (with_new_group d tree w.tier) t → IsJournalledOn (with_flushed_entry t new w) early }
     ensures drops { (w : World) (early : List Sealed) (name : List ℕ) (g : Group) (t : Tier) (new : Journal)
-        → Stands w → IsJournalled w early → MayDrop w name g → is_called name g ≡ true
+        → Stands w → IsJournalled w early → IsUnshared w → MayDrop w name g → is_called name g ≡ true
         → IsFlushedWith (Drops name) (length w.history) w.journal new → IsQuiet (without_group name w.tier) t
         → IsJournalledOn (with_flushed_entry t new w) early }
     ensures states { (w : World) (early : List Sealed) (name : List ℕ) (state : RefreshState) (t : Tier) (new : Journal)

@@ -138,7 +138,7 @@ import_comes word bytes w w' reply early stands on apart reads (inl q) = by (ins
       on =
           on_then w' early on.now on.more on.grows
           (wrote w w' on.now stands on.is apart (change ∷ changes)
-          (λ ops rows b s leaves same done. ops_off w (change ∷ changes) ops rows b s stands (import_off w.tier word bytes (change ∷ changes) is) leaves same done) q.tier q.call.journal q.result q.call.history);
+          (λ ops rows b s leaves same done. ops_off w (change ∷ changes) ops rows b s stands (import_off w.tier word bytes (change ∷ changes) is) leaves same done) q.tier q.call.journal q.call.shared q.result q.call.history);
       reads = bank w w' _ (foreign_none (change ∷ changes) q.result) (of_tier w.tier w'.tier _ q.tier (rests w.tier)) q.call reads;
       defs = defs_around w.shared _ w.history w'.history (λ a b p. defs_same a b (foreign_none (change ∷ changes) q.result a b p)) q.call.history;
       shared = q.call.shared;

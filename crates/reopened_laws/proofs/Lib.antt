@@ -2,6 +2,7 @@ mod CrashLaws
 mod EndedRuns
 mod HandedOn
 mod ImportLaws
+mod PointLaws
 mod ReadLines
 mod ReadNames
 mod ReadOpenings

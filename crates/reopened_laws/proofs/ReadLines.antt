@@ -31,7 +31,7 @@ use Rattle.cache_tier.specs.Undone.{is_undone}
 use Rattle.cache_tier.specs.Worlds.{BankCall, Follows, OnlyWhere, Tries, Unless, World}
 use Rattle.reopened_laws.specs.Leaving.{HaveOwnTableNames}
 use Rattle.reopened_laws.proofs.ReadTiers.{aging_rests, rests, settled_rests}
-use Rattle.reopened_laws.proofs.ReadParts.{AllPrint, AllRead, PartKeeps, Readable, StageKeeps, bank, defs_others, either_keeps, of_tier, only_where_keeps, quiet, refuses_keeps, same, state_before, tiered, tries_keeps, unless_keeps, round_keeps}
+use Rattle.reopened_laws.proofs.ReadParts.{AllPrint, AllRead, PartKeeps, Readable, StageKeeps, WayReads, bank, defs_others, either_keeps, of_tier, only_where_keeps, quiet, refuses_keeps, round_keeps, same, state_before, tiered, tries_keeps, unless_keeps}
 use Rattle.reopened_laws.proofs.ReadStatements.{RequestPrints, recorded_none, refreshes_if_shown_keeps, session_keeps, writes_all_keeps}
 use Rattle.reopened_laws.proofs.ReadNames.{IsFreshName, fresh_of, own_more, taken_none}
 
@@ -105,6 +105,7 @@ nothing_made : (w w' : World) → Grown w w' [] → w'.tier.schema ≡ w.tier.sc
 nothing_made w w' g schema stale r = record {
   flushed = subst (λ j. AllRead j.flushed) (sym g.journal) r.flushed;
   tail = subst (λ j. AllRead j.tail) (sym g.journal) r.tail;
+  way = subst (λ j. WayReads j.way) (sym g.journal) r.way;
   groups = subst (λ gs. AllPrint (definitions_of gs)) (sym g.groups) r.groups;
   known = λ s leaves fresh. (let m = was_there w w' [] g s leaves in schema ∙ r.known m.0 m.1 (sym stale ∙ fresh) ∙ sym (g.defs ∙ append-nil (defs_of w.history)));
   own = λ s leaves. (let m = was_there w w' [] g s leaves in subst HaveOwnTableNames (sym (g.defs ∙ append-nil (defs_of w.history))) (r.own m.0 m.1));
@@ -115,6 +116,7 @@ table_made : (w w' : World) (def : TableDef) → Grown w w' (Definition def ∷ 
 table_made w w' def g fresh name schema r = record {
   flushed = subst (λ j. AllRead j.flushed) (sym g.journal) r.flushed;
   tail = subst (λ j. AllRead j.tail) (sym g.journal) r.tail;
+  way = subst (λ j. WayReads j.way) (sym g.journal) r.way;
   groups = subst (λ gs. AllPrint (definitions_of gs)) (sym g.groups) r.groups;
   known = λ s leaves still. (let m = was_there w w' (Definition def ∷ []) g s leaves in schema still ∙ ap (λ l. l ++ def ∷ []) (r.known m.0 m.1 fresh) ∙ sym g.defs);
   own = λ s leaves.
@@ -130,6 +132,7 @@ asked_keeps w w' stop q r = by q.result q.call q.tier
     by (Ok schema) c tier = record {
       flushed = subst (λ j. AllRead j.flushed) (sym g.journal) r.flushed;
       tail = subst (λ j. AllRead j.tail) (sym g.journal) r.tail;
+      way = subst (λ j. WayReads j.way) (sym g.journal) r.way;
       groups = subst (λ gs. AllPrint (definitions_of gs)) (sym g.groups) r.groups;
       known = λ s leaves fresh.
           (let m = state_before c.history.middle w'.history c.history.behind s c.history.is leaves in
@@ -176,6 +179,7 @@ creates_keeps def w w' reply fresh name q r = by q.result q.call q.tier
             unmade g = record {
               flushed = subst (λ j. AllRead j.flushed) (sym g.journal) r.flushed;
               tail = subst (λ j. AllRead j.tail) (sym g.journal) r.tail;
+              way = subst (λ j. WayReads j.way) (sym g.journal) r.way;
               groups = subst (λ gs. AllPrint (definitions_of gs)) (sym g.groups) r.groups;
               known = λ s leaves still. absurd (stale still);
               own = λ s leaves. (let m = was_there w w' [] g s leaves in subst HaveOwnTableNames (sym (g.defs ∙ append-nil (defs_of w.history))) (r.own m.0 m.1));

@@ -26,7 +26,7 @@ use Rattle.tier_journal.specs.Opening.{IsSpelt, StandForAll}
 use Rattle.cache_engine.specs.Opening.{Opens}
 use Rattle.reopened_laws.specs.Leaving.{HasText, HaveOwnTableNames}
 use Rattle.reopened_laws.proofs.ReadTiers.{changed_rests, cond_def, mapped_defs, refreshed_rests, rests}
-use Rattle.reopened_laws.proofs.ReadParts.{AllPrint, AllRead, Prints, Readable, StageKeeps, applies_keeps, becomes_keeps, defs_others, defs_same, only_where_keeps, reads_first_keeps, same, state_before, then_stage_keeps}
+use Rattle.reopened_laws.proofs.ReadParts.{AllPrint, AllRead, Prints, Readable, StageKeeps, WayReads, applies_keeps, becomes_keeps, defs_others, defs_same, only_where_keeps, reads_first_keeps, same, state_before, then_stage_keeps}
 use Rattle.reopened_laws.proofs.ReadStatements.{less_print, more_print}
 
 -- ---- the entries
@@ -119,6 +119,7 @@ module _ (settings : Settings) (moment : ℕ) (there : Held) (w : World) (x : Op
   began = record {
     flushed = subst AllRead (sym (ap (λ (j : Journal). j.flushed) x.begins.journal)) said;
     tail = subst AllRead (sym (ap (λ (j : Journal). j.tail) x.begins.journal)) tt;
+    way = subst WayReads (sym (ap (λ (j : Journal). j.way) x.begins.journal)) tt;
     groups = subst AllPrint (sym (ap (λ (t : Tier). definitions_of t.groups) x.begins.tier)) groups;
     known = λ s leaves fresh. schema ∙ sym (x.begins.known s leaves) ∙ schema_after begun.history no_tables s leaves;
     own = λ s leaves.

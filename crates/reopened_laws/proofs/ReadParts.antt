@@ -1,5 +1,5 @@
 -- That what the next opening reads of a world can be read, through the words for parts.
-use Rattle.std.proofs.Common.{◌≡◌, inl, inr, ℕ, Bool, true, false, Option, Some, None, Result, Ok, Err, List, [], ◌∷◌, ◌++◌, map, append_assoc, append-nil, refl, sym, ap, subst, ◌∙◌}
+use Rattle.std.proofs.Common.{◌≡◌, inl, inr, ℕ, Bool, true, false, Option, Some, None, Result, Ok, Err, List, [], ◌∷◌, ◌++◌, length, map, append_assoc, append-nil, refl, sym, ap, subst, ◌∙◌}
 use Rattle.std.specs.Bool.{MatchBool}
 use Rattle.std.specs.Option.{option_and_then}
 use Rattle.std.specs.List.{AllByRecursion, filter}
@@ -24,11 +24,12 @@ use Rattle.cache_tier.specs.Definitions.{text_of}
 use Rattle.cache_tier.specs.declared.group.GroupDef.{GroupDef}
 use Rattle.cache_tier.specs.Groups.{Group, definitions_of, is_read_only}
 use Rattle.cache_tier.specs.JournalSteps.{Failing, Flushed, Flushes, FlushesFitting, FlushesKept, FlushesSome, NotesKept, Records, Whole, has_entries, journal_behind, journal_full, name_sizes}
-use Rattle.cache_tier.specs.Journals.{Commits, Journal, JournalEntry, SetsLoaded, SetsState, flushed_batch, with_noted}
+use Rattle.cache_tier.specs.Journals.{Commits, Journal, JournalEntry, SetsLoaded, SetsState, Stretch, Way, flushed_batch, passed_by, with_noted}
 use Rattle.cache_tier.specs.Reading.{Answers, FollowsAt, Reads, ReadsFirst, StageFollowsAt, TellsPosition}
 use Rattle.cache_tier.specs.Rotations.{Broken, Kept, Renewed, Rotates, Rotation, definition_entry, is_long, journal_after, slot_entries}
 use Rattle.cache_tier.specs.Rounds.{Applies, AppliesAndRotates, Mixes, Round, RoundIfUnsettled, is_unsettled}
 use Rattle.cache_tier.specs.TierStates.{Tier}
+use Rattle.cache_tier.specs.WayPoints.{IsPoint}
 use Rattle.cache_tier.specs.Worlds.{Answer, BankCall, Becomes, Follows, OnlyWhere, Part, Passes, Quiet, Refuses, Stage, StageFollows, Then, ThenStage, Tries, Unless, World}
 use Rattle.reopened_laws.specs.Leaving.{HasText, HaveOwnTableNames}
 use Rattle.reopened_laws.proofs.ReadTiers.{Rests, rests}
@@ -45,11 +46,17 @@ AllPrint defs = AllByRecursion (λ (d : GroupDef). Prints d.declared) defs
 abbrev pub AllRead : List JournalEntry → Type 0
 AllRead entries = AllByRecursion HasText entries
 
--- each definition's text reads; what is printed of a group does; the schema that isn't stale is the bank's, in which no
--- two tables have one name
+-- so it is of what the slots gave on a way
+abbrev pub WayReads : Option Way → Type 0
+WayReads None = Unit {0}
+WayReads (Some way) = AllByRecursion (λ (s : Stretch). AllRead s.entries) way.past
+
+-- each definition's text reads, on the way too; what is printed of a group does; the schema that isn't stale is the
+-- bank's, in which no two tables have one name
 pub record Readable (w : World) : Type 0 where
   pub flushed : AllRead w.journal.flushed
   pub tail : AllRead w.journal.tail
+  pub way : WayReads w.journal.way
   pub groups : AllPrint (definitions_of w.tier.groups)
   pub known : (s : TableState) → state_of w.history ≡ Some s → w.tier.stale ≡ false → w.tier.schema ≡ defs_of w.history
   pub own : (s : TableState) → state_of w.history ≡ Some s → HaveOwnTableNames (defs_of w.history)
@@ -95,14 +102,16 @@ state_before old new more n is leaves = state_front old more no_tables n (ap sta
 pub record HasReadable (j : Journal) : Type 0 where
   pub flushed : AllRead j.flushed
   pub tail : AllRead j.tail
+  pub way : WayReads j.way
 
-journal_of : (w : World) → Readable w → HasReadable w.journal
-journal_of w r = record { flushed = r.flushed; tail = r.tail }
+pub journal_of : (w : World) → Readable w → HasReadable w.journal
+journal_of w r = record { flushed = r.flushed; tail = r.tail; way = r.way }
 
 pub kept_by : (w w' : World) → Rests w.tier w'.tier → HasReadable w'.journal → Adds w.history w'.history → Readable w → Readable w'
 kept_by w w' k j x r = record {
   flushed = j.flushed;
   tail = j.tail;
+  way = j.way;
   groups = subst AllPrint (sym k.defs) r.groups;
   known = λ s leaves fresh. (let m = state_before w.history w'.history x.more s x.is leaves in k.schema ∙ r.known m.0 m.1 (sym k.stale ∙ fresh) ∙ sym (defs_same w.history w'.history x));
   own = λ s leaves. (let m = state_before w.history w'.history x.more s x.is leaves in subst HaveOwnTableNames (sym (defs_same w.history w'.history x)) (r.own m.0 m.1));
@@ -219,13 +228,24 @@ all_both P (x ∷ xs) ys a b = (a.0, all_both P xs ys a.1 b)
 
 batch_reads : (name : Op → ℕ) (batch : List JournalEntry) (j : Journal) → HasReadable j → AllRead batch → HasReadable (flushed_batch name batch j)
 batch_reads name [] j r a = r
-batch_reads name (e ∷ batch) j r a = record { flushed = all_both HasText j.flushed (e ∷ batch) r.flushed a; tail = tt }
+batch_reads name (e ∷ batch) j r a = record { flushed = all_both HasText j.flushed (e ∷ batch) r.flushed a; tail = tt; way = r.way }
+
+-- what the slots gave before is on the way
+passed_reads : (flushed : List JournalEntry) (until : ℕ) (way : Option Way) → AllRead flushed → WayReads way → WayReads (passed_by flushed until way)
+passed_reads flushed until None a r = tt
+passed_reads flushed until (Some way) a r = all_both (λ (s : Stretch). AllRead s.entries) way.past (record { entries = flushed; until = until } ∷ []) r (a, tt)
+
+-- and what they gave at a point of it
+pub point_reads : (from : ℕ) (past : List Stretch) (flushed : List JournalEntry) (end : ℕ) (entries : List JournalEntry) (count : ℕ) → AllByRecursion (λ (s : Stretch). AllRead s.entries) past → AllRead flushed → IsPoint from past flushed end entries count → AllRead entries
+point_reads from [] flushed end entries count a f p = subst AllRead (sym p.2) f
+point_reads from (s ∷ past) flushed end entries count a f (inl p) = subst AllRead (sym p.2) a.0
+point_reads from (s ∷ past) flushed end entries count a f (inr p) = point_reads s.until past flushed end entries count a.1 f p
 
 behind_reads : (result : Flushed) (w : World) (entries : List JournalEntry) → AllRead entries → HasReadable w.journal → HasReadable (journal_behind result w entries)
 behind_reads Whole w entries a r =
     let h = batch_reads (name_sizes w) (w.journal.tail ++ entries) w.journal r (all_both HasText w.journal.tail entries r.tail a) in
-    record { flushed = h.flushed; tail = h.tail }
-behind_reads Failing w entries a r = record { flushed = r.flushed; tail = all_both HasText w.journal.tail entries r.tail a }
+    record { flushed = h.flushed; tail = h.tail; way = passed_reads w.journal.flushed (length w.history) w.journal.way r.flushed r.way }
+behind_reads Failing w entries a r = record { flushed = r.flushed; tail = all_both HasText w.journal.tail entries r.tail a; way = r.way }
 
 as_it_is : (w w' : World) → w'.history ≡ w.history → Adds w.history w'.history
 as_it_is w w' e = record { more = []; is = e ∙ sym (append-nil w.history); none = refl }
@@ -245,7 +265,7 @@ flushes_some_keeps entries a w w' stop q r =
 kept_notes_keeps : (e : JournalEntry) → HasText e → StageKeeps (NotesKept e)
 kept_notes_keeps e a w w' stop q r =
     let v : World = record w { journal = with_noted e w.journal } in
-    same v w' q.0 (kept_by w v (rests w.tier) (record { flushed = r.flushed; tail = all_both HasText w.journal.tail (e ∷ []) r.tail (a, tt) }) (adds_none w.history) r)
+    same v w' q.0 (kept_by w v (rests w.tier) (record { flushed = r.flushed; tail = all_both HasText w.journal.tail (e ∷ []) r.tail (a, tt); way = r.way }) (adds_none w.history) r)
 
 pub records_keeps : (durable : Bool) (e : JournalEntry) → HasText e → StageKeeps (Records durable e)
 records_keeps true e a w w' stop q r = flushes_keeps (e ∷ []) (a, tt) w w' stop q r
@@ -271,7 +291,7 @@ slot_reads t a = (
 )
 
 rotated_reads : (result : Rotation) (w : World) → Readable w → HasReadable (journal_after result w)
-rotated_reads Renewed w r = record { flushed = slot_reads w.tier r.groups; tail = tt }
+rotated_reads Renewed w r = record { flushed = slot_reads w.tier r.groups; tail = tt; way = passed_reads w.journal.flushed (length w.history) w.journal.way r.flushed r.way }
 rotated_reads Kept w r = journal_of w r
 rotated_reads Broken w r = journal_of w r
 

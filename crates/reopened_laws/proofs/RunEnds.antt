@@ -1,19 +1,19 @@
 -- A run over a site leaves one that may be opened again.
-use Rattle.std.proofs.Common.{◌≡◌, inl, inr, ℕ, suc, ◌≤◌, ◌^◌, Bool, true, false, Option, Some, None, Ok, Err, Result, List, [], ◌∷◌, refl, sym, ap, subst, ◌∙◌}
+use Rattle.std.proofs.Common.{◌≡◌, inr, ℕ, suc, ◌≤◌, ◌^◌, false, Option, None, List, [], ◌∷◌, refl, sym, ap, subst, ◌∙◌}
 use Rattle.std.specs.List.{list_any}
 use Rattle.table_state.specs.declared.history.Sealed.{Sealed}
-use Rattle.outside.specs.declared.fault.BankError.{BankError}
 use Rattle.outside.specs.Holding.{Held}
 use Rattle.outside.specs.Others.{is_shared}
 use Rattle.cache_tier.specs.declared.reply.Reply.{Reply}
 use Rattle.cache_tier.specs.Groups.{Group, is_table_of, is_writethrough}
 use Rattle.cache_tier.specs.Journals.{Journal}
-use Rattle.cache_tier.specs.Reading.{ReadsFirst, StageFollowsAt, as_it_was, backing_at}
+use Rattle.cache_tier.specs.Reading.{ReadsFirst, as_it_was, backing_at}
 use Rattle.cache_tier.specs.Rounds.{Applies}
 use Rattle.cache_tier.specs.Sets.{alone, changed, refreshed}
 use Rattle.cache_tier.specs.Steps.{Finishes}
 use Rattle.cache_tier.specs.TierStates.{Settings, Tier, opened}
-use Rattle.cache_tier.specs.Worlds.{Becomes, IsUnshared, OnlyWhere, Stage, StageFollows, World}
+use Rattle.cache_tier.specs.Worlds.{Becomes, IsUnshared, OnlyWhere, World}
+use Rattle.cache_tier.proofs.LeadLaws.{StageLeads, applies_leads, becomes_leads, only_where_leads, passes_leads, reads_first_leads, same_number, then_stage_leads}
 use Rattle.recovery.specs.Journalled.{IsJournalledOn}
 use Rattle.recovery.specs.Recalling.{AreMatched, RecallsAll}
 use Rattle.recovery.specs.Reopening.{HoldAgain, HoldsAgainAt, IsReopened, Reloads, Reopens, ViewsAgain, holding, is_held_again, is_viewed_again}
@@ -31,29 +31,7 @@ use Rattle.cache_engine.specs.Requests.{Given, LineRun, LineStep}
 use Rattle.reopened_laws.specs.Leaving.{GoesOnThrough, IsLeftAt}
 use Rattle.reopened_laws.proofs.SiteLaws.{may_open, site_may_open}
 
--- ---- what others change stays in the opening
-
-abbrev StaysShared : Stage → Type 0
-StaysShared stage = (w w' : World) (stop : Option Reply) → stage w w' stop → w'.shared ≡ w.shared
-
-same_shared : (w w' : World) → w' ≡ w → w'.shared ≡ w.shared
-same_shared w w' e = ap (λ (x : World). x.shared) e
-
-reads_shared : (next : ℕ → World → Tier) → StaysShared (ReadsFirst as_it_was (λ n. Becomes (next n)))
-reads_shared next w w' stop q = by q.result q.goes_on ∙ q.call.shared
-  where
-    by : (result : Result ℕ BankError) → StageFollowsAt result (λ n. Becomes (next n)) q.mid w' stop → w'.shared ≡ q.mid.shared
-    by (Err e) f = same_shared q.mid w' f.0
-    by (Ok n) (inl f) = ap (λ (x : World). x.shared) f.0
-    by (Ok n) (inr f) = same_shared q.mid w' f.0
-
-where_shared : (b : Bool) (stage : Stage) → StaysShared stage → StaysShared (OnlyWhere b stage)
-where_shared true stage so w w' stop q = so w w' stop q
-where_shared false stage so w w' stop q = same_shared w w' q.0
-
-then_shared : (w mid w' : World) (end stop : Option Reply) (one other : Stage) → StaysShared one → StaysShared other → one w mid end → StageFollows end other mid w' stop → w'.shared ≡ w.shared
-then_shared w mid w' (Some r) stop one other a b first next = same_shared mid w' next.0 ∙ a w mid (Some r) first
-then_shared w mid w' None stop one other a b first next = b mid w' stop next ∙ a w mid None first
+-- ---- what the opening leads to
 
 abbrev viewed : ℕ → World → Tier
 viewed n v = refreshed is_viewed_again n (backing_at v n) v.tier
@@ -61,30 +39,32 @@ viewed n v = refreshed is_viewed_again n (backing_at v n) v.tier
 abbrev held : ℕ → ℕ → World → Tier
 held place n v = changed (alone place) (holding (backing_at v n)) v.tier
 
-views_shared : StaysShared ViewsAgain
-views_shared w w' stop q =
-    where_shared (list_any (is_viewed_again 0) w.tier.groups) (ReadsFirst as_it_was (λ n. Becomes (viewed n))) (reads_shared viewed) w w' stop q
+reads_lead : (next : ℕ → World → Tier) → ((n : ℕ) (v : World) → v.tier.next ≤ (next n v).next) → StageLeads (ReadsFirst as_it_was (λ n. Becomes (next n)))
+reads_lead next keeps = reads_first_leads as_it_was (λ n. Becomes (next n)) (λ t. same_number t.next) (λ n. becomes_leads (next n) (keeps n))
 
-holds_shared : (place : ℕ) → StaysShared (HoldsAgainAt place)
-holds_shared place w w' stop q = reads_shared (held place) w w' stop q
+views_lead : StageLeads ViewsAgain
+views_lead w w' stop q = only_where_leads (list_any (is_viewed_again 0) w.tier.groups) (ReadsFirst as_it_was (λ n. Becomes (viewed n))) (reads_lead viewed (λ n v. same_number v.tier.next)) w w' stop q
 
-hold_shared : (place : ℕ) (groups : List Group) → StaysShared (HoldAgain place groups)
-hold_shared place [] w w' stop q = same_shared w w' q.0
-hold_shared place (g ∷ groups) w w' stop q =
-    then_shared w q.mid w' q.stop stop (OnlyWhere (is_held_again g) (HoldsAgainAt place)) (HoldAgain (suc place) groups)
-    (where_shared (is_held_again g) (HoldsAgainAt place) (holds_shared place)) (hold_shared (suc place) groups) q.first q.next
+holds_lead : (place : ℕ) → StageLeads (HoldsAgainAt place)
+holds_lead place w w' stop q = reads_lead (held place) (λ n v. same_number v.tier.next) w w' stop q
 
-reloads_shared : StaysShared Reloads
-reloads_shared w w' stop q = then_shared w q.mid w' q.stop stop ViewsAgain (HoldAgain 0 w.tier.groups) views_shared (hold_shared 0 w.tier.groups) q.first q.next
+hold_leads : (place : ℕ) (groups : List Group) → StageLeads (HoldAgain place groups)
+hold_leads place [] = passes_leads
+hold_leads place (g ∷ groups) =
+    then_stage_leads (OnlyWhere (is_held_again g) (HoldsAgainAt place)) (HoldAgain (suc place) groups)
+    (only_where_leads (is_held_again g) (HoldsAgainAt place) (holds_lead place)) (hold_leads (suc place) groups)
 
-reopens_shared : StaysShared Reopens
-reopens_shared w w' stop q = then_shared w q.mid w' q.stop stop Applies Reloads (λ v v' end a. a.shared) reloads_shared q.first q.next
+reloads_lead : StageLeads Reloads
+reloads_lead w w' stop q = then_stage_leads ViewsAgain (HoldAgain 0 w.tier.groups) views_lead (hold_leads 0 w.tier.groups) w w' stop q
+
+pub reopens_lead : StageLeads Reopens
+reopens_lead = then_stage_leads Applies Reloads applies_leads reloads_lead
 
 -- ---- where the run begins
 
 module _ (settings : Settings) (moment : ℕ) (there : Held) (w : World) (x : Opens settings moment there w) (may : MayOpen w.shared there) where
   both : AreMatched x.begins.entries x.begun.history × IsUnshared x.begun
-  both = may settings moment x.journal x.begun x.begins (sym (reopens_shared x.begun w None x.reopens))
+  both = may settings moment x.journal x.begun x.begins (sym (reopens_lead x.begun w None x.reopens).shared)
 
   schema : both.0.backing.schema ≡ x.begins.schema
   schema = x.begins.known both.0.backing both.0.leaves
@@ -98,12 +78,12 @@ module _ (settings : Settings) (moment : ℕ) (there : Held) (w : World) (x : Op
     does = x.reopens;
   }
 
-  kept : IsKeptOf x.begins.entries x.begun.journal
+  kept : IsKeptOf x.begins.entries x.begun
   kept = record {
     kept = ap (λ (k : Journal). k.kept) x.begins.journal;
     flushed = ap (λ (k : Journal). k.flushed) x.begins.journal;
     tail = ap (λ (k : Journal). k.tail) x.begins.journal;
-    way = ap (λ (k : Journal). k.way) x.begins.journal;
+    way = inr (ap (λ (k : Journal). k.way) x.begins.journal);
   }
 
   pub begins_again : Reopened w []

@@ -15,7 +15,7 @@ use Rattle.recovery_laws.specs.Notes.{Note, catalog_of}
 use Rattle.recovery.specs.Journalled.{CrashLeaves, IsJournalled, IsJournalledOn}
 use Rattle.recovery.specs.Recalling.{AreMatched, RecallsAll, notes_of}
 use Rattle.recovery.proofs.FoldLaws.{IsFolded}
-use Rattle.recovery.proofs.JournalledLaws.{alike_table}
+use Rattle.recovery.proofs.LiveLaws.{alike_table}
 use Rattle.recovery.proofs.LeftLaws.{crash_leaves}
 use Rattle.recovery.proofs.NewestLaws.{newest, newest_has, plain, seconds}
 use Rattle.recovery.proofs.OthersLaws.{others_kept}

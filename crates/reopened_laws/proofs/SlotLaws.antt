@@ -22,16 +22,15 @@ use Rattle.journal_entries.specs.declared.entry.Entry.TheVariants.{Commit, Prepa
 use Rattle.journal_entries.specs.declared.entry.Op as by_name
 use Rattle.journal_entries.specs.declared.entry.Op.TheVariants as named
 use Rattle.commit_journal.specs.Layout.{entries_of, Gives, Placed}
-use Rattle.commit_journal.specs.Resting.{AtRest}
-use Rattle.commit_journal.specs.declared.journal.Journal as commit
 use Rattle.commit_journal.proofs.OneJournal.{one_journal}
-use Rattle.commit_journal.proofs.TailLaws.{rest_gives}
 use Rattle.cache_tier.specs.Journals.{Commits, Defines, Drops, JournalEntry, Marks, Numbers, Prepares, SetsLoaded, SetsState}
 use Rattle.cache_tier.specs.Worlds.{World}
 use Rattle.tier_journal.specs.Opening.{StandForAll, StandsFor}
 use Rattle.tier_journal.specs.Reading.{name_in_op, read_state}
 use Rattle.tier_journal.specs.Writing.{HasTables, IsOfSchema, name_in, name_of, written, written_all, written_op, written_ops, written_state}
 use Rattle.tier_journal.proofs.WrittenLaws.{all_grown, all_stay}
+use Rattle.kept_journal.specs.Leaving.{HasBecome}
+use Rattle.kept_journal.proofs.WayLaws.{flushed_gives, flushed_tables, no_more}
 use Rattle.tier_opening.specs.Opening.{Say}
 use Rattle.reopened_laws.specs.Leaving.{HasText, HaveOwnTableNames, IsKeptAt, IsLeftAt, ReadBack, ReadsBack}
 
@@ -219,34 +218,38 @@ all_back schema (e ∷ entries) (f ∷ said) (p ∷ placed) own below reads stan
   all_back schema entries said placed own below.1 reads.1 stand.1 (ap rest_of are),
 )
 
+-- ---- under a schema that has grown
+
+stands_grown : (schema more : List TableDef) (f : JournalEntry) (entry : Entry) → StandsFor schema f entry → StandsFor (schema ++ more) f entry
+stands_grown schema more f entry s = record {
+  is = ap (first_or (written schema f)) (all_grown schema more (f ∷ []) (s.tables, tt)) ∙ s.is;
+  tables = (all_stay schema more (f ∷ []) (s.tables, tt)).0;
+  spelt = s.spelt;
+}
+
+stand_grown : (schema more : List TableDef) (said : List JournalEntry) (placed : List Placed) → StandForAll schema said placed → StandForAll (schema ++ more) said placed
+stand_grown schema more [] [] s = tt
+stand_grown schema more [] (p ∷ placed) s = absurd s
+stand_grown schema more (f ∷ said) [] s = absurd s
+stand_grown schema more (f ∷ said) (p ∷ placed) s = (stands_grown schema more f p.1 s.0, stand_grown schema more said placed s.1)
+
 -- ---- the slots
 
-front_tables : (P : JournalEntry → Type 0) (xs ys : List JournalEntry) → AllByRecursion P (xs ++ ys) → AllByRecursion P xs
-front_tables P [] ys all = tt
-front_tables P (x ∷ xs) ys all = (all.0, front_tables P xs ys all.1)
+-- Slots that give entries under one schema say these alone under another, where both have become a third one, in which no
+-- two tables have one name.
+pub point_says : (slots : Slots) (entries said : List JournalEntry) (early schema whole : List TableDef) → HasBecome early whole → HasBecome schema whole → HaveOwnTableNames whole → AllByRecursion (HasTables early) entries → AllByRecursion HasText entries
+    → Gives slots (written_all early entries) → Say schema slots said → ReadBack entries said
+point_says slots entries said early schema whole one two own tables texts gives say =
+    all_back whole entries said say.placed own
+    (subst (λ l. AllByRecursion (HasTables l) entries) (sym one.is) (all_stay early one.more entries tables)) texts
+    (subst (λ l. StandForAll l said say.placed) (sym two.is) (stand_grown schema two.more said say.placed say.stand))
+    (ap entries_of (one_journal say.reads gives.reads).entries_same ∙ gives.are ∙ sym (ap (λ l. written_all l entries) one.is ∙ all_grown early one.more entries tables))
 
 slots_say : (o : Held) (w : World) → IsKeptAt o w → (s : TableState) (said : List JournalEntry) → state_of w.history ≡ Some s → Say s.schema o.slots said → ReadBack w.journal.flushed said
 slots_say o w k s said leaves say =
-    all_back s.schema w.journal.flushed said say.placed (k.named s leaves) tables k.texts say.stand
-    (ap entries_of (one_journal say.reads gives.reads).entries_same ∙ gives.are ∙ sym written_same)
-  where
-    gives : Gives o.slots (written_all w.tier.schema w.journal.flushed)
-    gives = rest_gives k.journal.journal o.slots (written_all w.tier.schema w.journal.flushed) (written_all w.tier.schema w.journal.tail) k.keeps.rests
-
-    more : List TableDef
-    more = (k.front s leaves).0
-
-    grown : s.schema ≡ w.tier.schema ++ more
-    grown = (k.front s leaves).1
-
-    before : AllByRecursion (HasTables w.tier.schema) w.journal.flushed
-    before = front_tables (HasTables w.tier.schema) w.journal.flushed w.journal.tail k.keeps.tables
-
-    tables : AllByRecursion (HasTables s.schema) w.journal.flushed
-    tables = subst (λ l. AllByRecursion (HasTables l) w.journal.flushed) (sym grown) (all_stay w.tier.schema more w.journal.flushed before)
-
-    written_same : written_all s.schema w.journal.flushed ≡ written_all w.tier.schema w.journal.flushed
-    written_same = ap (λ l. written_all l w.journal.flushed) grown ∙ all_grown w.tier.schema more w.journal.flushed before
+    let grown = k.front s leaves in
+    point_says o.slots w.journal.flushed said w.tier.schema s.schema s.schema (record { more = grown.0; is = grown.1 }) (no_more s.schema) (k.named s leaves) (flushed_tables w.tier.schema k.journal o.slots w.journal k.keeps) k.texts
+    (flushed_gives w.tier.schema k.journal o.slots w.journal k.keeps).gives say
 
 pub left_at : (o : Held) (w : World) → IsKeptAt o w → IsLeftAt o w
 left_at o w k = record { history = k.history; says = slots_say o w k }

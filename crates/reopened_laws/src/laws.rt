@@ -68,10 +68,12 @@ pub fn crash_law<P: Site>()
 {}
 
 /// And at each moment of a run, inside its lines too: what the slots give and the history belong together, and hold
-/// each commit that was held where the last line before began, or the flush behind the last one. Where all lines were
-/// answered that is said of the site as it is at the end, whether the tail was flushed (`flushed`) or wasn't (`rests`),
-/// and of a run of the program that ended with the status 0 (`program`). Where a call of the journal's disk failed it
-/// is said of the lines before, and of a site that was there then (`before`).
+/// each commit that was held where the last line before began, or the flush behind the last one. And a tier may be
+/// opened over what is left, where others change no table of a writethrough group behind the last line. Where all lines
+/// were answered that is said of the site as it is at the end, whether the tail was flushed (`flushed`) or wasn't
+/// (`rests`), and of a run of the program that ended with the status 0 (`program`); and so it is since the opening
+/// found the journal, with the commits that it told of. Where a call of the journal's disk failed it is said of the
+/// lines before, and of a site that was there then (`before`).
 pub fn within_law<P: Site>()
     ensures flushed { CrashesWithinAreSafe P.Disk.state P.Disk.possible HasFlushed }
     ensures rests { CrashesWithinAreSafe P.Disk.state P.Disk.possible Rests }

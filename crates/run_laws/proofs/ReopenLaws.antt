@@ -1,5 +1,5 @@
 -- The tier that is opened again keeps its journal, from which it was opened.
-use Rattle.std.proofs.Common.{◌≡◌, ℕ, suc, ◌≤◌, Bool, true, false, Option, Some, None, List, [], ◌∷◌, ◌++◌, refl, sym, ap, subst, ◌∙◌, arith, append-nil}
+use Rattle.std.proofs.Common.{◌≡◌, inl, inr, ℕ, suc, ◌≤◌, Bool, true, false, Option, Some, None, List, [], ◌∷◌, ◌++◌, refl, sym, ap, subst, ◌∙◌, arith, append-nil}
 use Rattle.std.specs.List.{list_all, list_any}
 use Rattle.table_state.specs.declared.history.Sealed.{Sealed}
 use Rattle.table_state.specs.Tables.{TableState}
@@ -18,12 +18,15 @@ use Rattle.cache_tier.specs.StandingBetween.{Each, Stands}
 use Rattle.cache_tier.specs.TierStates.{Session, Settings, Tier, opened}
 use Rattle.cache_tier.specs.Worlds.{Becomes, IsUnshared, OnlyWhere, StageFollows, World}
 use Rattle.recovery.specs.Journalled.{AreAlike, IsJournalled, IsQuiet}
-use Rattle.recovery.specs.Recalling.{RecallsAll, notes_of, recalled}
+use Rattle.recovery.specs.Recalling.{AreMatched, RecallsAll, notes_of, recalled}
 use Rattle.recovery.specs.SafeWays.{HasSafeWay}
 use Rattle.recovery.specs.Reopening.{HoldAgain, HoldsAgainAt, IsReopened, Reloads, ViewsAgain, holding, is_held_again, is_viewed_again, with_sets_begun}
 use Rattle.recovery.proofs.LeftLaws.{Leaves, all_same, alike_back}
+use Rattle.recovery.proofs.LiveLaws.{leaves_unshared}
 use Rattle.recovery.proofs.OthersLaws.{on_then}
+use Rattle.recovery.proofs.PointLaws.{safe_begun}
 use Rattle.recovery.proofs.RecalledLaws.{folded, stands_recalled}
+use Rattle.recovery.proofs.SafeLaws.{matched_now, safely, wayless}
 use Rattle.line_laws.proofs.PartWords.{Any, Goes, GoesStage, becomes_goes, only_where_goes, passes_goes, reads_first_goes, still_quiet, then_stage_goes}
 use Rattle.line_laws.proofs.QuietTiers.{alike_changed, quiet_groups, refreshed_quiet}
 use Rattle.line_laws.proofs.RoundLaws.{Rounded, applied, drained_end}
@@ -31,56 +34,72 @@ use Rattle.line_laws.proofs.LoadStatements.{round_unshared}
 use Rattle.order_laws.proofs.TruthLaws.{same_some}
 use Rattle.table_state.specs.Histories.{state_of}
 use Rattle.run_laws.specs.Lines.{IsLeft, IsOfOneKind, are_later}
-use Rattle.run_laws.specs.Runs.{IsKeptOf, Reopened}
+use Rattle.run_laws.specs.Runs.{BeginsWay, IsKeptOf, Reopened}
 use Rattle.run_laws.proofs.RunKeeps.{survives}
 use Rattle.run_laws.proofs.SitsLaws.{Sits, StageSits, becomes_sits, changed_sits, kept, only_where_sits, passes_sits, reads_first_sits, then_stage_sits}
 use Rattle.run_laws.proofs.StandLaws.{IsSeenAs, seen_as, stands_seen}
 
 -- ---- what the tier begins with
 
-module _ (settings : Settings) (moment : ℕ) (entries : List JournalEntry) (w w' : World) (early : List Sealed) (x : IsReopened settings moment entries w w' None) (j : IsKeptOf entries w.journal) (held : AreHeld (notes_of x.matched.backing.schema entries) w.history early) (apart : IsUnshared w) where
-  abbrev base : Tier
-  base = recalled x.matched.backing.schema entries w.history x.catalog
-
-  begun : IsSeenAs (recalled x.matched.backing.schema entries w.history x.catalog) w.tier
-  begun = seen_as (recalled x.matched.backing.schema entries w.history x.catalog) w.tier (with_sets_begun (recalled x.matched.backing.schema entries w.history x.catalog)) x.tier
+-- A world whose tier is what the entries leave, which its journal has flushed.
+module _ (settings : Settings) (moment : ℕ) (entries : List JournalEntry) (w : World) (early : List Sealed) (matched : AreMatched entries w.history) (catalog : Tier) (recalls : RecallsAll entries (opened settings moment matched.backing.schema) catalog)
+    (tier : w.tier ≡ with_sets_begun (recalled matched.backing.schema entries w.history catalog)) (j : IsKeptOf entries w) (held : AreHeld (notes_of matched.backing.schema entries) w.history early) where
+  begun_seen : IsSeenAs (recalled matched.backing.schema entries w.history catalog) w.tier
+  begun_seen = seen_as (recalled matched.backing.schema entries w.history catalog) w.tier (with_sets_begun (recalled matched.backing.schema entries w.history catalog)) tier
       (record { schema = refl; stale = refl; groups = refl; log = refl; unsettled = refl; sessions = refl; next = refl })
-
-  stands : Stands w
-  stands = stands_seen (with_tier (recalled x.matched.backing.schema entries w.history x.catalog) w) w begun refl (stands_recalled w entries settings moment x.catalog x.matched x.recalls)
 
   -- all entries are flushed
   all_given : given w.journal ≡ entries
   all_given = (λ i. j.flushed i ++ j.tail i) ∙ append-nil entries
 
-  other : Leaves entries (opened settings 0 x.matched.backing.schema) x.catalog
-  other = all_same entries (opened settings moment x.matched.backing.schema) (opened settings 0 x.matched.backing.schema) x.catalog (record { schema = refl; next = refl; groups = tt }) x.recalls
+  other : Leaves entries (opened settings 0 matched.backing.schema) catalog
+  other = all_same entries (opened settings moment matched.backing.schema) (opened settings 0 matched.backing.schema) catalog (record { schema = refl; next = refl; groups = tt }) recalls
 
-  journalled : IsJournalled w early
-  journalled = record {
+  -- with no way asked for
+  begun_bare : IsJournalled (wayless w) early
+  begun_bare = record {
     kept = j.kept;
-    backing = x.matched.backing;
-    leaves = x.matched.leaves;
+    backing = matched.backing;
+    leaves = matched.leaves;
     late = [];
     tail = j.tail;
     stands =
-        subst (λ l. Rattle.recovery_laws.specs.Crashes.Stands (record { flushed = notes_of x.matched.backing.schema l; late = []; history = w.history; commits = early ++ [] }) early) (sym j.flushed)
+        subst (λ l. Rattle.recovery_laws.specs.Crashes.Stands (record { flushed = notes_of matched.backing.schema l; late = []; history = w.history; commits = early ++ [] }) early) (sym j.flushed)
         (record {
-          matched = subst (λ (n : List Note). Rattle.recovery_laws.specs.Matching.IsMatched n w.history) (sym (append-nil (notes_of x.matched.backing.schema entries))) x.matched.matched;
+          matched = subst (λ (n : List Note). Rattle.recovery_laws.specs.Matching.IsMatched n w.history) (sym (append-nil (notes_of matched.backing.schema entries))) matched.matched;
           ahead = tt;
           are = refl;
           held = held;
         });
     settings = settings;
     catalog = other.left;
-    recalls = subst (λ l. RecallsAll l (opened settings 0 x.matched.backing.schema) other.left) (sym all_given) other.recalls;
-    alike = subst (AreAlike other.left.groups) (sym begun.groups) (alike_back x.catalog.groups other.left.groups other.same.groups);
+    recalls = subst (λ l. RecallsAll l (opened settings 0 matched.backing.schema) other.left) (sym all_given) other.recalls;
+    alike = subst (AreAlike other.left.groups) (sym begun_seen.groups) (alike_back catalog.groups other.left.groups other.same.groups);
     tie =
-        ap (pending w.history) begun.log
-        ∙ ap (λ l. pending w.history (log_in w.history (notes_of x.matched.backing.schema l))) (sym all_given);
-    next = subst (λ n. n ≤ w.tier.next) (ap next_behind (sym all_given)) (subst (λ n. next_behind entries ≤ n) (sym begun.next) (omega arith));
-    safe = subst (HasSafeWay w) (sym j.way) tt;
+        ap (pending w.history) begun_seen.log
+        ∙ ap (λ l. pending w.history (log_in w.history (notes_of matched.backing.schema l))) (sym all_given);
+    next = subst (λ n. n ≤ w.tier.next) (ap next_behind (sym all_given)) (subst (λ n. next_behind entries ≤ n) (sym begun_seen.next) (omega arith));
+    safe = tt;
   }
+
+  begun_way : BeginsWay w → HasSafeWay w w.journal.way
+  begun_way (inl none) = subst (HasSafeWay w) (sym none) tt
+  begun_way (inr here) =
+      subst (HasSafeWay w) (sym here)
+      (safe_begun w.tier.next w.tier.groups w.shared w.moment w.journal.flushed w.history (matched_now (wayless w) early begun_bare) (leaves_unshared (wayless w) early begun_bare))
+
+  pub begun_journalled : IsJournalled w early
+  begun_journalled = safely w early begun_bare (begun_way j.way)
+
+module _ (settings : Settings) (moment : ℕ) (entries : List JournalEntry) (w w' : World) (early : List Sealed) (x : IsReopened settings moment entries w w' None) (j : IsKeptOf entries w) (held : AreHeld (notes_of x.matched.backing.schema entries) w.history early) (apart : IsUnshared w) where
+  begun : IsSeenAs (recalled x.matched.backing.schema entries w.history x.catalog) w.tier
+  begun = begun_seen settings moment entries w early x.matched x.catalog x.recalls x.tier j held
+
+  stands : Stands w
+  stands = stands_seen (with_tier (recalled x.matched.backing.schema entries w.history x.catalog) w) w begun refl (stands_recalled w entries settings moment x.catalog x.matched x.recalls)
+
+  journalled : IsJournalled w early
+  journalled = begun_journalled settings moment entries w early x.matched x.catalog x.recalls x.tier j held
 
   -- ---- behind the round, and with the rows that come back
 
@@ -156,11 +175,11 @@ module _ (settings : Settings) (moment : ℕ) (entries : List JournalEntry) (w w
           sits : Sits x.does.mid.tier w'.tier
           sits = reloads_sit x.does.mid w' None next
 
-pub reopened_kept : (settings : Settings) (moment : ℕ) (entries : List JournalEntry) (w w' : World) (early : List Sealed) (x : IsReopened settings moment entries w w' None) → IsKeptOf entries w.journal → AreHeld (notes_of x.matched.backing.schema entries) w.history early → IsUnshared w → Reopened w' early
+pub reopened_kept : (settings : Settings) (moment : ℕ) (entries : List JournalEntry) (w w' : World) (early : List Sealed) (x : IsReopened settings moment entries w w' None) → IsKeptOf entries w → AreHeld (notes_of x.matched.backing.schema entries) w.history early → IsUnshared w → Reopened w' early
 reopened_kept settings moment entries w w' early x j held apart = reopened settings moment entries w w' early x j held apart
 
 -- after a crash between two lines
-pub begun_again : (w v v' : World) (early : List Sealed) (settings : Settings) (moment : ℕ) → IsLeft w → IsJournalled w early → v.history ≡ w.history → IsKeptOf w.journal.flushed v.journal → IsUnshared v → IsReopened settings moment w.journal.flushed v v' None → Reopened v' early
+pub begun_again : (w v v' : World) (early : List Sealed) (settings : Settings) (moment : ℕ) → IsLeft w → IsJournalled w early → v.history ≡ w.history → IsKeptOf w.journal.flushed v → IsUnshared v → IsReopened settings moment w.journal.flushed v v' None → Reopened v' early
 begun_again w v v' early settings moment left j same kept apart x =
     let c = (survives w early settings moment left j).crash in
     let backing : c.matched.backing ≡ x.matched.backing = same_some (sym c.matched.leaves ∙ ap state_of (sym same) ∙ x.matched.leaves) in

@@ -1,11 +1,11 @@
 -- A line, and a list of lines, with a journal that is the tier's; and what a crash leaves behind each of them. (This
 -- project's rule, over recovery as the TimesTen Cache User's Guide tells of it.)
 
-use Rattle.std.specs.Prelude.{◌≡◌, ℕ, true, false, List, [], ◌∷◌, ◌++◌, Option, None}
+use Rattle.std.specs.Prelude.{◌≡◌, ◌⊎◌, ℕ, true, false, List, [], ◌∷◌, ◌++◌, Option, Some, None, length}
 use Rattle.table_state.specs.declared.history.Sealed.{Sealed}
 use Rattle.cache_tier.specs.declared.reply.Reply.{Reply}
 use Rattle.cache_tier.specs.Events.{with_tier}
-use Rattle.cache_tier.specs.Journals.{Journal, JournalEntry}
+use Rattle.cache_tier.specs.Journals.{JournalEntry}
 use Rattle.cache_tier.specs.StandingBetween.{Stands}
 use Rattle.cache_tier.specs.Steps.{Asked, Saying, Step}
 use Rattle.cache_tier.specs.TierStates.{Settings}
@@ -73,12 +73,18 @@ KeepsThrough w early (line ∷ lines) (reply ∷ replies) w' =
 KeepsThrough w early [] (reply ∷ replies) w' = ⊥
 KeepsThrough w early (line ∷ lines) [] w' = ⊥
 
--- A journal has these entries, all of them flushed, and no way is asked for yet.
-pub record IsKeptOf (entries : List JournalEntry) (j : Journal) : Type 0 where
-  pub kept : j.kept ≡ true
-  pub flushed : j.flushed ≡ entries
-  pub tail : j.tail ≡ []
-  pub way : j.way ≡ None
+-- no way is asked for yet, or one begins in this world
+abbrev pub BeginsWay : World → Type 0
+BeginsWay w =
+    (w.journal.way ≡ None)
+    ⊎ (w.journal.way ≡ Some (record { since = w.moment; from = length w.history; past = [] }))
+
+-- A world's journal has these entries, all of them flushed, and its way begins there.
+pub record IsKeptOf (entries : List JournalEntry) (w : World) : Type 0 where
+  pub kept : w.journal.kept ≡ true
+  pub flushed : w.journal.flushed ≡ entries
+  pub tail : w.journal.tail ≡ []
+  pub way : BeginsWay w
 
 -- A tier that was opened again: its journal is its own, and what was held is held; others change no table of a live
 -- writethrough group still; and what is written is of one kind.

@@ -49,9 +49,9 @@ pub fn flush_law()
 /// may begin there.
 pub fn reopened_law()
     ensures reopens { (settings : Settings) (moment : ℕ) (entries : List JournalEntry) (w w' : World)
-        (early : List Sealed) (x : IsReopened settings moment entries w w' None) → IsKeptOf entries w.journal
+        (early : List Sealed) (x : IsReopened settings moment entries w w' None) → IsKeptOf entries w
         → AreHeld (notes_of x.matched.backing.schema entries) w.history early → IsUnshared w → Reopened w' early }
     ensures again { (w v v' : World) (early : List Sealed) (settings : Settings) (moment : ℕ) → IsLeft w
-        → IsJournalled w early → v.history ≡ w.history → IsKeptOf w.journal.flushed v.journal → IsUnshared v
+        → IsJournalled w early → v.history ≡ w.history → IsKeptOf w.journal.flushed v → IsUnshared v
         → IsReopened settings moment w.journal.flushed v v' None → Reopened v' early }
 {}

@@ -29,7 +29,7 @@ use Rattle.session_cli.proofs.OutputLaws.{breaks_then, splits_then}
 use Rattle.session_cli.proofs.ServingLaws.{replies_push, told_after, told_whole}
 use Rattle.session_cli.proofs.RunLaws.{since_map}
 use Rattle.session_cli.proofs.SlotLaws.{in_slots}
-use Rattle.session_cli.proofs.WayLaws.{kept_once}
+use Rattle.session_cli.proofs.WayLaws.{kept_once, unshared_too}
 
 -- NOTHING WAITS BEHIND A FLUSH
 
@@ -65,7 +65,7 @@ module _ {D : Type 0} (state : D → SiteState) (possible : D → ℕ → Held �
   before = seen written coming state possible d
 
   -- so it ends from a world
-  ends_from : (w : World) → StandsHere before engine w → IsFinished state possible k' d' None w → EndsKept HasFlushed (state d') (KeepsOver state possible d') w
+  ends_from : (w : World) → StandsHere before engine w → IsFinished state possible k' d' None w → EndsKept HasFlushed (state d') (KeepsOver state possible d') c.world w
   ends_from w at x =
       let behind = over_disk x.journal x.faults (state d').moment w in
       let clears = flush_clears w behind at.stands.kept x.is in
@@ -73,6 +73,7 @@ module _ {D : Type 0} (state : D → SiteState) (possible : D → ℕ → Held �
         last = behind;
         ended = record { flushed = x.is; kept = clears.0; empty = clears.1 };
         is = record { at = x.at; kept = clears.0; journal = k'; keeps = x.keeps refl };
+        apart = unshared_too engine.tier engine.doubt c.world w c.stands.left at.stands.left (at.at.shared ∙ sym c.at.shared);
       }
 
   here : StandsHere before engine c.world
@@ -89,10 +90,11 @@ module _ {D : Type 0} (state : D → SiteState) (possible : D → ℕ → Held �
         ran = c.world;
         comes = c.comes;
         goes = c.goes;
-        since = since_map (StandsHere before engine) (EndsKept HasFlushed (state d') (KeepsOver state possible d')) (λ w at. ends_from w at (finishes w at)) o.world c.comes.given c.replies c.world c.comes.run c.since;
+        since = since_map (StandsHere before engine) (EndsKept HasFlushed (state d') (KeepsOver state possible d') c.world) (λ w at. ends_from w at (finishes w at)) o.world c.comes.given c.replies c.world c.comes.run c.since;
         last = behind;
         ended = record { flushed = x.is; kept = clears.0; empty = clears.1 };
         at = x.at;
+        now = record { at = x.at; kept = clears.0; journal = k'; keeps = x.keeps refl };
         slots = in_slots state possible d' k' behind clears.0 (x.keeps refl);
         legal = known.legal;
         drained = λ none settled. drained_over c.world x.journal x.faults (state d').moment (drained_of c.world (known.stands none) settled);

@@ -43,8 +43,13 @@ pub told_whole : (start : List ℕ) (now : Option (List ℕ)) (bytes : List ℕ)
 told_whole start now bytes p = told_after start now (take p.count bytes) p.written ∙ ap (λ l. Some (start ++ l)) (take_rest p.count bytes (sym p.waits))
 
 -- nothing comes behind the lines
-rest_here : (now : Outside) (engine : Engine) (w : World) → StandsHere now engine w → EndsKept Rests now.site now.keeps w
-rest_here now engine w x = record { last = w; ended = refl; is = record { at = x.at; kept = x.stands.kept; journal = engine.journal; keeps = x.stands.keeps } }
+rest_here : (now : Outside) (engine : Engine) (ran : World) → StandsHere now engine ran → (w : World) → StandsHere now engine w → EndsKept Rests now.site now.keeps ran w
+rest_here now engine ran here w x = record {
+  last = w;
+  ended = refl;
+  is = record { at = x.at; kept = x.stands.kept; journal = engine.journal; keeps = x.stands.keeps };
+  apart = unshared_too engine.tier engine.doubt ran w here.stands.left x.stands.left (x.at.shared ∙ sym here.at.shared);
+}
 
 -- a run has led to a world in which the engine is left so
 pub answered_by : (o : Origin) (lines : List (List ℕ)) (replies : List (Option Reply)) (now : Outside) (engine : Engine) (w : World) (c : Comes o lines replies w) → GoesOn now.kept_once o.world c.given replies w c.run → IsAt now.site w
@@ -55,10 +60,11 @@ answered_by o lines replies now engine w comes goes at stands since =
       ran = w;
       comes = comes;
       goes = goes;
-      since = since_map (StandsHere now engine) (EndsKept Rests now.site now.keeps) (rest_here now engine) o.world comes.given replies w comes.run since;
+      since = since_map (StandsHere now engine) (EndsKept Rests now.site now.keeps w) (rest_here now engine w (record { at = at; stands = stands })) o.world comes.given replies w comes.run since;
       last = w;
       ended = refl;
       at = at;
+      now = record { at = at; kept = stands.kept; journal = engine.journal; keeps = stands.keeps };
       slots = stands.slots;
       legal = known.legal;
       drained = λ none. drained_of w (known.stands none);

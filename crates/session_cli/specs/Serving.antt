@@ -195,28 +195,31 @@ pub record HasFlushed (w w' : World) : Type 0 where
   pub kept : w'.journal.kept ≡ true
   pub empty : w'.journal.tail ≡ []
 
--- What comes behind the last line leads to a world at the site, over whose disk a journal is kept.
-pub record EndsKept (ends : World → World → Type 0) (site : SiteState) (keeps : Keeping) (w : World) : Type 0 where
+-- What comes behind the last line leads to a world at the site, over whose disk a journal is kept. Where others change
+-- no table of a writethrough group in the run's own world behind that line, they change none here.
+pub record EndsKept (ends : World → World → Type 0) (site : SiteState) (keeps : Keeping) (ran w : World) : Type 0 where
   pub last : World
   pub ended : ends w last
   pub is : IsKeptNow site keeps last
+  pub apart : IsUnshared ran → IsUnshared w
 
 -- These are the replies of a run over the lines, behind each of which the engine was left so. At its end, behind what
--- comes there, the site is as the run's last world says, whose journal is kept in its slots; and over its disk a
--- journal is kept in the worlds to which the lines have led since each of them began, so that what a crash has left at
--- each moment since is told. At the end each committed transaction stands once at most, and conflicting ones in commit
--- order; where nothing is in doubt and nothing unsettled, as behind a ttDrain that succeeded, each stands once, and the
--- tables of each writethrough group are what all of its transactions make in commit order; and the READONLY groups of
--- one set that have something to show have one position.
+-- comes there, the site is as the run's last world says, whose journal is kept in its slots and over its disk; and over
+-- this a journal is kept in the worlds to which the lines have led since each of them began, so that what a crash has
+-- left at each moment since is told. At the end each committed transaction stands once at most, and conflicting ones in
+-- commit order; where nothing is in doubt and nothing unsettled, as behind a ttDrain that succeeded, each stands once,
+-- and the tables of each writethrough group are what all of its transactions make in commit order; and the READONLY
+-- groups of one set that have something to show have one position.
 pub record Answered (ends : World → World → Type 0) (o : Origin) (lines : List (List ℕ))
     (replies : List (Option Reply)) (site : SiteState) (keeps : Keeping) (once : World → Type 0) : Type 0 where
   pub ran : World
   pub comes : Comes o lines replies ran
   pub goes : GoesOn once o.world comes.given replies ran comes.run
-  pub since : LedSinceEach (EndsKept ends site keeps) o.world comes.given replies ran comes.run
+  pub since : LedSinceEach (EndsKept ends site keeps ran) o.world comes.given replies ran comes.run
   pub last : World
   pub ended : ends ran last
   pub at : IsAt site last
+  pub now : IsKeptNow site keeps last
   pub slots : IsInSlots site last
   pub legal : KeepsCommitOrder last.history last.tier.log
   pub drained : last.tier.doubt ≡ None → last.tier.unsettled ≡ [] → IsDrained last

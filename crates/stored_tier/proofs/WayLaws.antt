@@ -14,7 +14,7 @@ use Rattle.tier_journal.specs.declared.journal.TierJournal.{TierJournal}
 use Rattle.tier_journal.specs.Keeping.{Keeps}
 use Rattle.tier_journal.specs.Leaving.{GivesEntries}
 use Rattle.kept_journal.specs.Leaving.{HasBecome, IsOnWay, LeavesOnWay, LeavesPoints}
-use Rattle.kept_journal.proofs.WayLaws.{flushed_gives, point_later, point_now, take_whole}
+use Rattle.kept_journal.proofs.WayLaws.{flushed_gives, flushed_tables, point_later, point_now, take_whole}
 use Rattle.stored_tier.specs.Sites.{IsAt}
 
 -- a history that is longer
@@ -65,6 +65,7 @@ module _ {D : Type 0} (state : D → SiteState) (possible : D → ℕ → Held �
             front = q.front ∙ longer_front o.history c.now.history q.count c.grows q.within;
             early = q.early;
             becomes = become_more q.early w.tier.schema w'.tier.schema q.becomes grows;
+            tables = q.tables;
             gives = q.gives;
           }
       | inr way_there ↦
@@ -78,6 +79,7 @@ module _ {D : Type 0} (state : D → SiteState) (possible : D → ℕ → Held �
             front = sym (take_whole p.history) ∙ longer_front p.history c.now.history (length p.history) way_there.1.comes (omega arith);
             early = w.tier.schema;
             becomes = grows;
+            tables = flushed_tables w.tier.schema t o.slots w.journal keeps;
             gives = gives p way_there.0;
           }
     ]);

@@ -16,8 +16,10 @@ use Rattle.order_laws.specs.Commits.{RiseBetween}
 use Rattle.commit_journal.specs.Layout.{HaveBytes, Reads}
 use Rattle.propagators.specs.Certainty.{KeepsCertain}
 use Rattle.recovery_laws.specs.Notes.{commits_in}
-use Rattle.cache_tier.specs.Journals.{Journal, JournalEntry, next_behind}
-use Rattle.kept_journal.specs.Leaving.{LeavesOnWay}
+use Rattle.cache_tier.specs.Journals.{JournalEntry, next_behind}
+use Rattle.kept_journal.specs.Beginning.{begun_here}
+use Rattle.kept_journal.specs.Keeping.{KeepsOver}
+use Rattle.kept_journal.proofs.WayLaws.{ways_begin}
 use Rattle.cache_tier.specs.StandingBetween.{Each, Stands}
 use Rattle.cache_tier.specs.TierStates.{Settings, opened}
 use Rattle.cache_tier.specs.Worlds.{IsUnshared, World}
@@ -36,6 +38,7 @@ use Rattle.stored_tier.specs.declared.tier.Tier.{Tier as Stored}
 use Rattle.stored_tier.specs.Sites.{IsAt}
 use Rattle.stored_tier.specs.Stored.{pace_of}
 use Rattle.stored_tier.proofs.BankLaws.{TellsBehind, told_behind}
+use Rattle.stored_tier.proofs.OverLaws.{keeps_called}
 use Rattle.session_engine.proofs.OthersLaws.{CameBy, came_by, schema_reads, schema_told}
 use Rattle.tier_opening.specs.Opening.{BeginsIn, IsOpened, IsOpenedIn, begun_tier, world_of}
 use Rattle.tier_opening.specs.Telling.{IsDiffering, IsNamed}
@@ -68,8 +71,12 @@ module _ {D : Type 0} (state : D → SiteState) (possible : D → ℕ → Held �
   r : IsRecalled settings start.now.0 start.schema entries (groups_in start.catalog)
   r = recalls settings
 
+  -- before a way of its journal begins
+  abbrev before : World
+  before = world_of (begun_tier start.schema entries f.now.history r.tier) f.now.history (opened_journal k entries) (state d2)
+
   abbrev w : World
-  w = world_of (begun_tier start.schema entries f.now.history r.tier) f.now.history (opened_journal k entries) (state d2)
+  w = begun_here (world_of (begun_tier start.schema entries f.now.history r.tier) f.now.history (opened_journal k entries) (state d2))
 
   known : (s : TableState) → state_of f.now.history ≡ Some s → s.schema ≡ start.schema
   known s is = schema_told (state d).shared start.schema o.history now.there.history s now.is.history (subst (λ h. state_of h ≡ Some s) f.beside is)
@@ -98,6 +105,17 @@ module _ {D : Type 0} (state : D → SiteState) (possible : D → ℕ → Held �
   starts : BeginsAs start w.tier
   starts = begins_as start settings entries f.now.history r.tier due r.recalls r.left bare commits next rise
 
+  -- the journal is kept there, over the disk as it was found
+  over : KeepsOver state possible d2 (Some k) w
+  over = ways_begin state possible d2 (Some k) before refl (record { there = f.now; told = f.certain.told; same = refl })
+      (record {
+        there = f.now;
+        certain = f.certain;
+        keeps = subst (λ s. Keeps s k f.now.slots (opened_journal k entries)) (sym (all_still entries (opened settings start.now.0 start.schema) r.tier r.recalls).schema) f.shows.4;
+        version = two;
+        leaves = tt;
+      })
+
   pub opens : (d3 : D) (t : Stored) → ReopensFrom start (state d2) (state d3) (Ok t) → KeepsCertain state possible d2 d3 → IsOpened state possible settings start.now.0 (state d).shared o t k d3
   opens d3 t reopens certain = record { begun = w; shares = shared; begins = begins; opened = opened_in }
     where
@@ -105,21 +123,11 @@ module _ {D : Type 0} (state : D → SiteState) (possible : D → ℕ → Held �
       opened_in m apart =
           let p = reopens w at (stands m) apart starts in
           let left = reopens_leave w p.world None p.is in
-          let c = certain f.now f.certain in
-          let schema : p.world.tier.schema ≡ start.schema = left.schema ∙ (all_still entries (opened settings start.now.0 start.schema) r.tier r.recalls).schema in
-          let kept : Keeps start.schema k c.now.slots p.world.journal =
-          subst (λ x. Keeps start.schema k x p.world.journal) (sym c.slots) (subst (λ j. Keeps start.schema k f.now.slots j) (sym left.journal) f.shows.4) in
           record {
             world = p.world;
             at = p.at;
             stands = p.stands;
-            keeps = record {
-              there = c.now;
-              certain = c.certain;
-              keeps = subst (λ s. Keeps s k c.now.slots p.world.journal) (sym schema) kept;
-              version = two;
-              leaves = subst (λ (j : Journal). LeavesOnWay state possible d3 c.now p.world j.way) (sym left.journal) tt;
-            };
+            keeps = keeps_called state possible (Some k) d2 d3 w p.world over certain left.journal left.schema p.at;
             reopens = p.is;
           }
 

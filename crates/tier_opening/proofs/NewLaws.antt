@@ -42,7 +42,7 @@ left_more {Y = Y} h some next = by (state_of h) refl some
     by None e is = cc
     by (Some x) e is = next x e
 
-left_by : (shared : List TableId) (entries h : List Entry) (s : TableState) → state_of h ≡ Some s → AreOthers shared h entries → (x : TableState) × (state_of (h ++ entries) ≡ Some x)
+pub left_by : (shared : List TableId) (entries h : List Entry) (s : TableState) → state_of h ≡ Some s → AreOthers shared h entries → (x : TableState) × (state_of (h ++ entries) ≡ Some x)
 left_by shared [] h s is a = (s, ap state_of (append-nil h) ∙ is)
 left_by shared (Foreign ops ∷ entries) h s is a =
     left_more (h ++ Foreign ops ∷ []) (a.1 s is)

@@ -1,7 +1,7 @@
 -- A tier that is opened over the journal and the backing database that a site holds. (TimesTen Cache User's Guide,
 -- "Recovery"; the journal is this project's.)
 
-use Rattle.std.specs.Prelude.{◌≡◌, ℕ, List, ◌++◌, Some, None, false}
+use Rattle.std.specs.Prelude.{◌≡◌, ℕ, List, ◌++◌, Some, None, false, length}
 use Rattle.table_defs.specs.declared.definition.TableDef.{TableDef}
 use Rattle.table_state.specs.declared.history.Entry.{Entry}
 use Rattle.tier_base.specs.declared.number.TableId.{TableId}
@@ -14,6 +14,7 @@ use Rattle.commit_journal.specs.Layout.{HaveBytes, Placed, Reads}
 use Rattle.commit_journal.specs.Opening.{IsBlank}
 use Rattle.cache_tier.specs.Journals.{Journal, JournalEntry}
 use Rattle.cache_tier.specs.TierStates.{Settings, Tier, opened}
+use Rattle.cache_tier.specs.WayPoints.{with_way}
 use Rattle.cache_tier.specs.Worlds.{IsUnshared, World}
 use Rattle.tier_journal.specs.declared.journal.TierJournal.{TierJournal}
 use Rattle.tier_journal.specs.Opening.{StandForAll, opened_journal}
@@ -50,7 +51,7 @@ world_of tier history journal site =
     }
 
 -- The world in which the tier begins: transactions of others have come to the history that was held; the journal has
--- the entries that the slots say; and the tier is what they leave.
+-- the entries that the slots say, and a way of it begins; and the tier is what the entries leave.
 pub record BeginsIn (settings : Settings) (moment : ℕ) (o : Held) (k : TierJournal) (w : World) : Type 0 where
   pub others : List Entry
   pub came : AreOthers w.shared o.history others
@@ -59,7 +60,7 @@ pub record BeginsIn (settings : Settings) (moment : ℕ) (o : Held) (k : TierJou
   pub known : (s : TableState) → state_of w.history ≡ Some s → s.schema ≡ schema
   pub entries : List JournalEntry
   pub say : Say schema o.slots entries
-  pub journal : w.journal ≡ opened_journal k entries
+  pub journal : w.journal ≡ with_way w.moment (length w.history) (opened_journal k entries)
   pub catalog : Tier
   pub recalls : RecallsAll entries (opened settings moment schema) catalog
   pub tier : w.tier ≡ begun_tier schema entries w.history catalog

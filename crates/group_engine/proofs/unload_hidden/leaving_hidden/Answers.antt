@@ -1,40 +1,14 @@
-use Rattle.std.proofs.Common.{◌≡◌, ◌∙◌, ◌++◌, ◌∷◌, List, [], Bool, true, false, ap, arith, filter, map, sym}
-use Rattle.std.specs.FinMap.{values}
-use Rattle.row_types.specs.declared.value.Value.{Value}
-use Rattle.indexed_rows.specs.Rows.{key_of}
-use Rattle.stored_tier.specs.Choosing.{matches_at}
-use Rattle.group_engine.proofs.CutLaws.{keys_more, keys_skip, take_past}
-use Rattle.stored_tier.proofs.GatherLaws.{values_long}
-use Rattle.group_engine.proofs.GroupingLaws.{take_all}
+use Rattle.std.proofs.Common.{◌∙◌, IfSome, ap, option_copied, subst}
+use Rattle.std.specs.FinMap.{get}
+use Rattle.group_engine.specs.UnloadNamed.{NamesKey}
+use Rattle.group_engine.proofs.NamedKeys.{all_leave, one_leaves}
 use Rattle.group_engine.proofs.unload_hidden.leaving_hidden.Goals as goal
-use Rattle.group_engine.proofs.unload_hidden.leaving_hidden.Goals.{in-None, in-Some+in_ok-key-in-Some+then-matches+in_ok-push-in-Some, in-Some+in_ok-key-in-Some+else-matches}
 
-pub loop-place-preserved : goal.loop-place-preserved
-loop-place-preserved c =
-    let rows : List (List Value) = values c.args.hidden.now.table in
-    let key : List Value → List Value = key_of c.args.columns.now in
-    let test : List Value → Bool = λ row. matches_at c.args.which.now (key_of c.args.columns.now row) row in
-    elim c.match-row_at.branch [
-      | in-None w ↦ ap (λ v. v.items) w.keys-is ∙ c.loop-place.invariant ∙ ap (λ l. map key (filter test l)) (sym (take_past rows c.loop-place.place (sym w.in-None.ensures)))
-      | in-Some+in_ok-key-in-Some+then-matches+in_ok-push-in-Some w ↦ (
-          let its : w.in_ok-key-in-Some.key ≡ key_of c.args.columns.now w.in-Some.row.now = w.in_ok-key-in-Some.ensures in
-          let good : matches_at c.args.which.now (key_of c.args.columns.now w.in-Some.row.now) w.in-Some.row.now ≡ true =
-          sym (ap (λ (k : List Value). matches_at c.args.which.now k w.in-Some.row.now) its) ∙ sym w.matches.ensures ∙ w.if-matches.true in
-          ap (λ v. v.items) w.keys-is ∙ w.in_ok-push-in-Some.ensures.items
-          ∙ ap (λ (k : List Value). c.loop-place.keys.items ++ k ∷ []) its
-          ∙ keys_more key test rows c.loop-place.place w.in-Some.row.now c.loop-place.keys.items (sym w.in-Some.ensures) c.loop-place.invariant good)
-      | in-Some+in_ok-key-in-Some+else-matches w ↦ (
-          let its : w.in_ok-key-in-Some.key ≡ key_of c.args.columns.now w.in-Some.row.now = w.in_ok-key-in-Some.ensures in
-          let bad : matches_at c.args.which.now (key_of c.args.columns.now w.in-Some.row.now) w.in-Some.row.now ≡ false =
-          sym (ap (λ (k : List Value). matches_at c.args.which.now k w.in-Some.row.now) its) ∙ sym w.matches.ensures ∙ w.if-matches.false in
-          ap (λ v. v.items) w.keys-is
-          ∙ keys_skip key test rows c.loop-place.place w.in-Some.row.now c.loop-place.keys.items (sym w.in-Some.ensures) c.loop-place.invariant bad)
-    ]
+pub returns-in-None : goal.returns-in-None
+returns-in-None c = all_leave c.args.def.now c.args.which.now c.as_slice.result.now c.args.hidden.now.table c.all_hidden.result c.as_slice.ensures c.all_hidden.ensures
 
-pub returns : goal.returns
-returns c =
-    let rows : List (List Value) = values c.args.hidden.now.table in
-    let key : List Value → List Value = key_of c.args.columns.now in
-    let test : List Value → Bool = λ row. matches_at c.args.which.now (key_of c.args.columns.now row) row in
-    let long = values_long c.args.hidden.now.table in
-    c.loop-place.invariant ∙ ap (λ l. map key (filter test l)) (take_all rows c.loop-place.place (omega (arith, long, c.len-place-end.ensures.value, c.loop-place-test.false)))
+pub returns-in-Some : goal.returns-in-Some
+returns-in-Some c =
+    let names : NamesKey c.args.def.now.columns c.args.def.now.primary_key c.args.which.now.id c.in-Some.key =
+    subst (λ o. IfSome o (λ key. NamesKey c.args.def.now.columns c.args.def.now.primary_key c.args.which.now.id key)) c.in-Some.is c.in_ok-named_key.ensures in
+    one_leaves c.args.def.now c.args.which.now c.args.hidden.now.table c.in-Some.key (option_copied c.get.result) c.is_match-matches.result c.only_if.result names (c.get.ensures ∙ ap (get c.args.hidden.now.table) c.values.ensures) c.is_match-matches.ensures c.only_if.ensures
