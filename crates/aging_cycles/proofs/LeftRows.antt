@@ -7,8 +7,8 @@ use Rattle.group_catalog.specs.Catalogs.{groups_in}
 use Rattle.group_store.specs.Stores.{Kept, SameButSpare, cut_store}
 use Rattle.stored_tier.specs.declared.tier.Tier.{Tier as Stored}
 use Rattle.stored_tier.specs.Stored.{IsSound}
-use Rattle.confirmed_rows.specs.Coming.{HasRowsOf, HaveRowsOf, StoresRowsOf}
-use Rattle.confirmed_rows.proofs.RowsOf.{rows_alike, rows_cut, rows_itself, rows_through}
+use Rattle.aging_cycles.specs.Coming.{HasRowsOf, HaveRowsOf, StoresRowsOf}
+use Rattle.aging_cycles.proofs.RowsOf.{rows_alike, rows_cut, rows_itself, rows_through}
 use Rattle.aging_cycles.specs.Running.{HaveRun, cut_all}
 use Rattle.aging_cycles.proofs.SoundRun.{came, kept_long}
 use Rattle.aging_cycles.proofs.Walks.{there_too}

@@ -4,9 +4,12 @@ pub mod BusyLaws
 pub mod ByTimeLaws
 pub mod ByUseLaws
 pub mod CutLaws
+pub mod EnteredRows
+pub mod FitLaws
 pub mod HeldLaws
 pub mod HiddenLaws
 pub mod HiddenViews
+pub mod KeptRows
 pub mod KeyLists
 pub mod LeaveLaws
 pub mod LeavingKeys
@@ -14,6 +17,7 @@ pub mod LeftRows
 pub mod Places
 pub mod RootPlaces
 pub mod RootRows
+pub mod RowsOf
 pub mod ShownPlaces
 pub mod Shows
 pub mod Sides

@@ -10,10 +10,10 @@ ghost use Rattle.aging_cycles.specs.Ages.{Ages};
 ghost use Rattle.aging_cycles.specs.Running.{DueHorizon, HaveRun, HidesAt, KeepsNote, LeavesAt, RunsOne, turned};
 
 use crate::busy::writers;
+use crate::confirming::confirm;
 use crate::due::{horizon_of, is_due};
+use crate::laws::kept_rows_law;
 use crate::leaving::leave_from;
-use confirmed_rows::confirming::confirm;
-use confirmed_rows::laws::kept_rows_law;
 use group_store::laws::drop_instance_law;
 use std::alloc::Global;
 use stored_tier::tier::Tier;

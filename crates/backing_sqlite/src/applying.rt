@@ -6,43 +6,48 @@ use crate::fault::StoreFault;
 use crate::judging::{Difference, difference_at};
 use crate::reading::{first_missing, position_of};
 use crate::shelf::Shelf;
+use crate::store::{Base, Store, end};
 use crate::values::LogPlace;
-use crate::writing::{add_entry, do_op, next_entry, record};
+use crate::writing::{add_record, do_op, next_entry};
 use outside::{Applied, Receipt};
-use sqlite::{Alter, Connection, Transaction};
 use std::alloc::Global;
 use table_state::{Op, Sealed};
 use tier_base::{Position, Ticket};
 
 /// Applies and records a transaction, in one transaction of the store, where its ticket isn't recorded yet, those of
 /// `after` are, and its operations apply. Else nothing changes.
-pub(crate) fn apply_once<S: Alter>(
+pub(crate) fn apply_once(
     alloc: Global,
-    conn: &mut Connection<S>,
+    base: &mut Base,
     shelf: &Shelf,
     sealed: &Sealed,
     after: &[Ticket],
 ) -> Result<Applied, StoreFault>
     ensures waits { WaitsFor after.now result }
 {
-    if !conn.is_autocommit() {
-        return Err(StoreFault::Failed);
+    match base.begin() {
+        Ok(mut tx) => {
+            let done = apply_in(alloc, &mut tx, shelf, sealed, after);
+            match end(tx, is_applied(&done)) {
+                Ok(()) => done,
+                Err(fault) => Err(fault),
+            }
+        }
+        Err(fault) => Err(fault),
     }
-    let mut tx = conn.transaction();
-    let applied = apply_in(alloc, &mut tx, shelf, sealed, after)?;
-    match &applied {
-        Applied::Now(_) => match tx.commit() {
-            Ok(()) => Ok(applied),
-            Err(error) => Err(StoreFault::from(error)),
-        },
-        _ => Ok(applied),
+}
+
+fn is_applied(done: &Result<Applied, StoreFault>) -> bool {
+    match done {
+        Ok(Applied::Now(_)) => true,
+        _ => false,
     }
 }
 
 // The same, where what was done before an operation that doesn't apply is still to be taken back.
-fn apply_in<S: Alter>(
+fn apply_in<S: Store>(
     alloc: Global,
-    tx: &mut Transaction<'_, S>,
+    tx: &mut S,
     shelf: &Shelf,
     sealed: &Sealed,
     after: &[Ticket],
@@ -58,18 +63,17 @@ fn apply_in<S: Alter>(
     }
     match do_all(alloc, tx, shelf, sealed.ops.as_slice())? {
         Some(difference) => Ok(difference.told()),
-        None => {
-            let position = add_entry(tx)?;
-            record(tx, ticket, position)?;
-            Ok(Applied::Now(receipt(ticket, position)))
-        }
+        None => match add_record(tx, ticket) {
+            Ok(position) => Ok(Applied::Now(receipt(ticket, position))),
+            Err(fault) => Err(fault),
+        },
     }
 }
 
 // Does the operations from left to right, up to the first that doesn't apply.
-fn do_all<S: Alter>(
+fn do_all<S: Store>(
     alloc: Global,
-    tx: &mut Transaction<'_, S>,
+    tx: &mut S,
     shelf: &Shelf,
     ops: &[Op],
 ) -> Result<Option<Difference>, StoreFault> {

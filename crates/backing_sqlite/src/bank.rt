@@ -14,11 +14,11 @@ use crate::passing::passed;
 use crate::reaching::reach;
 use crate::reading::{entries_now, find, recorded};
 use crate::shelf::Shelf;
+use crate::store::Base;
 use evaluator::Change;
 use instances::Tree;
 use outside::{Applied, BankError, Changes, Done, Reached, Snapshot};
 use row_types::{Key, Row};
-use sqlite::{Connection, File, FileStore};
 use std::alloc::Global;
 use std::marker::Model;
 use table_defs::{BackingSchema, TableDef, copied_schema};
@@ -29,7 +29,7 @@ use tier_base::{Position, TableId, Ticket};
 /// call is one transaction of the store, and each failed one is counted. Clauses see how many have failed.
 pub struct SqliteBank {
     alloc: Global,
-    conn: Connection<FileStore<File>>,
+    base: Base,
     shelf: Shelf,
     faults: u64,
 }
@@ -38,7 +38,7 @@ impl Drop for SqliteBank {
     fn drop(self) {
         let Self {
             alloc: _,
-            conn: _,
+            base: _,
             shelf: _,
             faults: _,
         } = self;
@@ -59,14 +59,16 @@ impl SqliteBank {
         ensures { IfOk result (λ bank. bank ≡ 0) }
     {
         let alloc = rt.alloc();
-        let mut conn = Connection::open(rt, path)?;
-        let shelf = open_catalog(alloc, &mut conn)?;
-        Ok(SqliteBank {
-            alloc,
-            conn,
-            shelf,
-            faults: 0,
-        })
+        let mut base = Base::open(rt, path)?;
+        match open_catalog(alloc, &mut base) {
+            Ok(shelf) => Ok(SqliteBank {
+                alloc,
+                base,
+                shelf,
+                faults: 0,
+            }),
+            Err(fault) => Err(OpenError::from(fault)),
+        }
     }
 
     /// Closes the file, with all in it that was beside it. Where it fails, what was done is found all the same when the
@@ -74,11 +76,11 @@ impl SqliteBank {
     pub fn close(self) -> Result<(), BankError> {
         let Self {
             alloc: _,
-            conn,
+            base,
             shelf: _,
             faults: _,
         } = self;
-        match conn.close() {
+        match base.close() {
             Ok(()) => Ok(()),
             Err(_) => Err(BankError::Failed),
         }
@@ -120,7 +122,7 @@ impl SqliteBank {
     pub fn define(&mut self, def: &TableDef) -> Result<(), BankError>
         ensures counts { Counts self.old self.new result }
     {
-        let done = define(self.alloc, &mut self.conn, &mut self.shelf, def);
+        let done = define(self.alloc, &mut self.base, &mut self.shelf, def);
         self.answer(done)
     }
 
@@ -129,7 +131,7 @@ impl SqliteBank {
         ensures counts { Counts self.old self.new result }
         ensures waits { WaitsForOne after.now result }
     {
-        let done = apply_once(self.alloc, &mut self.conn, &self.shelf, sealed, after);
+        let done = apply_once(self.alloc, &mut self.base, &self.shelf, sealed, after);
         self.answer(done)
     }
 
@@ -137,7 +139,7 @@ impl SqliteBank {
     pub fn recorded(&mut self, ticket: Ticket) -> Result<bool, BankError>
         ensures counts { Counts self.old self.new result }
     {
-        let done = recorded(&mut self.conn, ticket);
+        let done = recorded(&mut self.base, ticket);
         self.answer(done)
     }
 
@@ -145,7 +147,7 @@ impl SqliteBank {
     pub fn find(&mut self, table: TableId, key: &Key) -> Result<Option<Row>, BankError>
         ensures counts { Counts self.old self.new result }
     {
-        let done = find(self.alloc, &mut self.conn, &self.shelf, table, key);
+        let done = find(self.alloc, &mut self.base, &self.shelf, table, key);
         self.answer(done)
     }
 
@@ -153,7 +155,7 @@ impl SqliteBank {
     pub fn foreign(&mut self, changes: &[Change]) -> Result<Done, BankError>
         ensures counts { Counts self.old self.new result }
     {
-        let done = foreign(self.alloc, &mut self.conn, &self.shelf, changes);
+        let done = foreign(self.alloc, &mut self.base, &self.shelf, changes);
         self.answer(done)
     }
 
@@ -161,7 +163,7 @@ impl SqliteBank {
     pub fn passed(&mut self, ticket: Ticket, change: &Change) -> Result<Done, BankError>
         ensures counts { Counts self.old self.new result }
     {
-        let done = passed(self.alloc, &mut self.conn, &self.shelf, ticket, change);
+        let done = passed(self.alloc, &mut self.base, &self.shelf, ticket, change);
         self.answer(done)
     }
 
@@ -169,7 +171,7 @@ impl SqliteBank {
     pub fn snapshot(&mut self, tables: &[TableId]) -> Result<Snapshot, BankError>
         ensures counts { Counts self.old self.new result }
     {
-        let done = snapshot(self.alloc, &mut self.conn, &self.shelf, tables);
+        let done = snapshot(self.alloc, &mut self.base, &self.shelf, tables);
         self.answer(done)
     }
 
@@ -177,7 +179,7 @@ impl SqliteBank {
     pub fn reach(&mut self, tree: &Tree, table: TableId, key: &Key) -> Result<Reached, BankError>
         ensures counts { Counts self.old self.new result }
     {
-        let done = reach(self.alloc, &mut self.conn, &self.shelf, tree, table, key);
+        let done = reach(self.alloc, &mut self.base, &self.shelf, tree, table, key);
         self.answer(done)
     }
 
@@ -194,7 +196,7 @@ impl SqliteBank {
     ) -> Result<Changes, BankError>
         ensures counts { Counts self.old self.new result }
     {
-        let done = changes(self.alloc, &mut self.conn, &self.shelf, since, trees, wants);
+        let done = changes(self.alloc, &mut self.base, &self.shelf, since, trees, wants);
         if done.is_ok() {
             self.shelf.keep_from(least.0);
         }
@@ -206,7 +208,7 @@ impl SqliteBank {
     pub fn tells_since(&mut self, since: Position) -> bool
         ensures { self.new ≡ self.old }
     {
-        match entries_now(&mut self.conn) {
+        match entries_now(&mut self.base) {
             Err(_) => false,
             Ok(entries) => {
                 self.shelf.begin_logs(entries);

@@ -4,12 +4,12 @@
 
 use crate::fault::StoreFault;
 use crate::judging::table_at;
-use crate::reading::{all_rows, entries, first_row};
+use crate::reading::entries;
 use crate::schema_rows::read_def;
 use crate::shelf::Shelf;
+use crate::store::{Base, Store, end};
 use crate::texts::log_text;
 use crate::writing::{forget, give};
-use sqlite::{Alter, Connection, Transaction};
 use std::alloc::Global;
 use table_defs::TableDef;
 
@@ -33,24 +33,22 @@ const COLUMNS: &str =
 const NO_ENTRIES: &str = "INSERT INTO \"ttcache-history\" (id, entries) VALUES (1, 0)";
 
 /// Makes what isn't there yet, and reads the definitions.
-pub(crate) fn open_catalog<S: Alter>(
-    alloc: Global,
-    conn: &mut Connection<S>,
-) -> Result<Shelf, StoreFault> {
-    if !conn.is_autocommit() {
-        return Err(StoreFault::Failed);
-    }
-    let mut tx = conn.transaction();
-    let shelf = catalog_in(alloc, &mut tx)?;
-    match tx.commit() {
-        Ok(()) => Ok(shelf),
-        Err(error) => Err(StoreFault::from(error)),
+pub(crate) fn open_catalog(alloc: Global, base: &mut Base) -> Result<Shelf, StoreFault> {
+    match base.begin() {
+        Ok(mut tx) => {
+            let done = catalog_in(alloc, &mut tx);
+            match end(tx, done.is_ok()) {
+                Ok(()) => done,
+                Err(fault) => Err(fault),
+            }
+        }
+        Err(fault) => Err(fault),
     }
 }
 
-fn catalog_in<S: Alter>(alloc: Global, tx: &mut Transaction<'_, S>) -> Result<Shelf, StoreFault> {
+fn catalog_in<S: Store>(alloc: Global, tx: &mut S) -> Result<Shelf, StoreFault> {
     let text = "SELECT name FROM sqlite_schema WHERE name = 'ttcache-history'";
-    match first_row(tx, text, &[])? {
+    match tx.first_row(text, &[])? {
         None => {
             make_catalog(tx)?;
             Ok(Shelf::new(alloc))
@@ -59,42 +57,71 @@ fn catalog_in<S: Alter>(alloc: Global, tx: &mut Transaction<'_, S>) -> Result<Sh
     }
 }
 
-fn make_catalog<S: Alter>(tx: &mut Transaction<'_, S>) -> Result<(), StoreFault> {
+fn make_catalog<S: Store>(tx: &mut S) -> Result<(), StoreFault> {
     for text in &[HISTORY, TICKETS, TABLES, COLUMNS, NO_ENTRIES] {
         give(tx, *text, &[])?;
     }
     Ok(())
 }
 
-fn read_catalog<S: Alter>(alloc: Global, tx: &mut Transaction<'_, S>) -> Result<Shelf, StoreFault> {
+fn read_catalog<S: Store>(alloc: Global, tx: &mut S) -> Result<Shelf, StoreFault> {
     let text = "SELECT name, parent, cascades FROM \"ttcache-tables\" ORDER BY place";
-    let stored = all_rows(tx, text, &[])?;
-    let position = entries(tx)?;
-    let mut shelf = Shelf::new(alloc);
-    for (place, row) in stored.iter().enumerate() {
-        add_table(alloc, tx, &mut shelf, place, row)?;
-        forget(tx, &shelf, table_at(place)?, position)?;
+    let stored = tx.all_rows(text, &[])?;
+    match entries(tx) {
+        Ok(position) => shelf_of(alloc, tx, stored.as_slice(), position),
+        Err(fault) => Err(fault),
     }
-    Ok(shelf)
+}
+
+// The tables of these rows. Their logs lose what they have up to a position.
+fn shelf_of<S: Store>(
+    alloc: Global,
+    tx: &mut S,
+    stored: &[sqlite::Row],
+    position: u64,
+) -> Result<Shelf, StoreFault> {
+    let mut shelf = Shelf::new(alloc);
+    match add_tables(alloc, tx, &mut shelf, stored, position) {
+        Ok(()) => Ok(shelf),
+        Err(fault) => Err(fault),
+    }
+}
+
+fn add_tables<S: Store>(
+    alloc: Global,
+    tx: &mut S,
+    shelf: &mut Shelf,
+    stored: &[sqlite::Row],
+    position: u64,
+) -> Result<(), StoreFault> {
+    for (place, row) in stored.iter().enumerate() {
+        add_table(alloc, tx, shelf, place, row)?;
+        forget(tx, shelf, table_at(place)?, position)?;
+    }
+    Ok(())
 }
 
 // Puts the table at a place behind those before it, and makes its log: a file from before the logs has none.
-fn add_table<S: Alter>(
+fn add_table<S: Store>(
     alloc: Global,
-    tx: &mut Transaction<'_, S>,
+    tx: &mut S,
     shelf: &mut Shelf,
     place: usize,
     row: &sqlite::Row,
 ) -> Result<(), StoreFault> {
-    let def = read_def(alloc, tx, place, row)?;
-    make_log(alloc, tx, &def)?;
-    shelf.push(alloc, def)
+    match read_def(alloc, tx, place, row) {
+        Ok(def) => match make_log(alloc, tx, &def) {
+            Ok(()) => shelf.push(alloc, def),
+            Err(fault) => Err(fault),
+        },
+        Err(fault) => Err(fault),
+    }
 }
 
 /// Makes the log of a table, where it isn't there.
-pub(crate) fn make_log<S: Alter>(
+pub(crate) fn make_log<S: Store>(
     alloc: Global,
-    tx: &mut Transaction<'_, S>,
+    tx: &mut S,
     def: &TableDef,
 ) -> Result<(), StoreFault> {
     let text = log_text(alloc, def)?;

@@ -1,9 +1,10 @@
 //! What changed since a position.
 
 use crate::fault::StoreFault;
-use crate::reaching::{root_of, rows_under};
+use crate::reaching::{put_row, root_of, rows_under};
 use crate::reading::{entries, row_at};
 use crate::shelf::Shelf;
+use crate::store::{Base, Store, TakesRows, end_reading};
 use crate::values::{key_of, row_behind};
 use change_log::RowChange;
 use indexed_rows::{Rows, is_same_row, key_at};
@@ -11,7 +12,6 @@ use instances::{Child, Tree, foreign_places};
 use outside::{Changes, Instance, Touched};
 use row_types::{Key, Row};
 use sqlite::types::ValueRef;
-use sqlite::{Alter, Connection, Transaction};
 use std::alloc::Global;
 use table_defs::TableDef;
 use table_state::RowKey;
@@ -19,35 +19,66 @@ use tier_base::{Position, Seq, TableId};
 
 /// What changed since a position in the tables of the trees, and of each tree the instances that this touches, and
 /// those that a want names, read in a transaction of its own. It fails where the logs don't go back so far.
-pub(crate) fn changes<S: Alter>(
+pub(crate) fn changes(
     alloc: Global,
-    conn: &mut Connection<S>,
+    base: &mut Base,
     shelf: &Shelf,
     since: Position,
     trees: &[Tree],
     wants: &[RowKey],
 ) -> Result<Changes, StoreFault> {
-    if !conn.is_autocommit() {
+    match base.begin() {
+        Ok(mut tx) => {
+            let found = changes_in(alloc, &mut tx, shelf, since, trees, wants);
+            end_reading(tx);
+            found
+        }
+        Err(fault) => Err(fault),
+    }
+}
+
+fn changes_in<S: Store>(
+    alloc: Global,
+    tx: &mut S,
+    shelf: &Shelf,
+    since: Position,
+    trees: &[Tree],
+    wants: &[RowKey],
+) -> Result<Changes, StoreFault> {
+    let count = entries(tx)?;
+    if !shelf.tells_since(since.0, count) {
         return Err(StoreFault::Failed);
     }
-    let mut tx = conn.transaction();
-    let position = Position(entries(&mut tx)?);
-    if !shelf.tells_since(since.0, position.0) {
-        return Err(StoreFault::Failed);
+    match log_since(alloc, tx, shelf, since, trees) {
+        Ok(log) => changes_with(alloc, tx, shelf, Position(count), log, trees, wants),
+        Err(fault) => Err(fault),
     }
-    let log = log_since(alloc, &mut tx, shelf, since, trees)?;
-    let touched = touched_by(alloc, &mut tx, shelf, trees, log.as_slice(), wants)?;
-    Ok(Changes {
-        position,
-        log: Seq::from_vec(log),
-        touched: Seq::from_vec(touched),
-    })
+}
+
+// What is told at a position, with this log.
+fn changes_with<S: Store>(
+    alloc: Global,
+    tx: &mut S,
+    shelf: &Shelf,
+    position: Position,
+    log: Vec<RowChange>,
+    trees: &[Tree],
+    wants: &[RowKey],
+) -> Result<Changes, StoreFault> {
+    match touched_by(alloc, tx, shelf, trees, log.as_slice(), wants) {
+        Ok(touched) => Ok(Changes {
+            position,
+            log: Seq::from_vec(log),
+            touched: Seq::from_vec(touched),
+        }),
+        Err(fault) => Err(fault),
+    }
 }
 
 // Of each tree the instances.
-fn touched_by<S: Alter>(
+fn touched_by<S: Store>(
     alloc: Global,
-    tx: &mut Transaction<'_, S>,
+    tx: &mut S,
     shelf: &Shelf,
     trees: &[Tree],
     log: &[RowChange],
@@ -62,9 +93,9 @@ fn touched_by<S: Alter>(
 }
 
 // One entry for each key of the tables of the trees whose row differs.
-fn log_since<S: Alter>(
+fn log_since<S: Store>(
     alloc: Global,
-    tx: &mut Transaction<'_, S>,
+    tx: &mut S,
     shelf: &Shelf,
     since: Position,
     trees: &[Tree],
@@ -95,9 +126,9 @@ fn add_once(tables: &mut Vec<TableId>, table: TableId) -> Result<(), StoreFault>
     Ok(())
 }
 
-fn add_changes<S: Alter>(
+fn add_changes<S: Store>(
     alloc: Global,
-    tx: &mut Transaction<'_, S>,
+    tx: &mut S,
     shelf: &Shelf,
     since: Position,
     table: TableId,
@@ -107,18 +138,31 @@ fn add_changes<S: Alter>(
         return Ok(());
     };
     for (key, old) in first_rows(alloc, tx, shelf, since, table, def)? {
-        let new = row_at(alloc, tx, shelf, table, &key)?;
-        let change = RowChange {
-            table,
-            key,
-            old,
-            new,
-        };
-        if !is_same_place(&change.old, &change.new) {
-            log.push(change)?;
+        match row_at(alloc, tx, shelf, table, &key) {
+            Ok(new) => add_change(
+                log,
+                RowChange {
+                    table,
+                    key,
+                    old,
+                    new,
+                },
+            )?,
+            Err(fault) => return Err(fault),
         }
     }
     Ok(())
+}
+
+// The change comes to the log, where the row differs.
+fn add_change(log: &mut Vec<RowChange>, change: RowChange) -> Result<(), StoreFault> {
+    if is_same_place(&change.old, &change.new) {
+        return Ok(());
+    }
+    match log.push(change) {
+        Ok(()) => Ok(()),
+        Err(_) => Err(StoreFault::Memory),
+    }
 }
 
 fn is_same_place(old: &Option<Row>, new: &Option<Row>) -> bool {
@@ -130,84 +174,105 @@ fn is_same_place(old: &Option<Row>, new: &Option<Row>) -> bool {
 }
 
 // The keys that the log has behind the position, each with the row before its first entry.
-fn first_rows<S: Alter>(
+fn first_rows<S: Store>(
     alloc: Global,
-    tx: &mut Transaction<'_, S>,
+    tx: &mut S,
     shelf: &Shelf,
     since: Position,
     table: TableId,
     def: &TableDef,
 ) -> Result<Vec<(Key, Option<Row>)>, StoreFault> {
     let mut first = FirstRows {
+        alloc,
+        def,
         seen: Rows::new(alloc),
         rows: Vec::new(alloc),
     };
     if let Ok(since) = i64::try_from(since.0) {
         let text = shelf.texts(table)?.logged.as_str();
-        first.read(alloc, tx, text, since, def)?;
+        tx.each_row(text, &[ValueRef::Int(since)], &mut first)?;
     }
     Ok(first.into_rows())
 }
 
 // Keys with the row before the first entry of each, in the order of these entries. The keys are also kept as those of
 // rows without values.
-struct FirstRows {
+struct FirstRows<'a> {
+    alloc: Global,
+    def: &'a TableDef,
     seen: Rows,
     rows: Vec<(Key, Option<Row>)>,
 }
 
-impl Drop for FirstRows {
+impl Drop for FirstRows<'_> {
     fn drop(self) {
-        let Self { seen: _, rows: _ } = self;
+        let Self {
+            alloc: _,
+            def: _,
+            seen: _,
+            rows: _,
+        } = self;
     }
 }
 
-impl FirstRows {
+impl TakesRows for FirstRows<'_> {
+    ghost keeps = { λ _. Unit {0} };
+
+    // Takes in an entry of the log.
+    fn take(&mut self, stored: &sqlite::Row) -> Result<(), StoreFault> {
+        match key_of(self.alloc, self.def, stored) {
+            Ok(key) => self.add(key, stored),
+            Err(fault) => Err(fault),
+        }
+    }
+}
+
+impl FirstRows<'_> {
     fn into_rows(self) -> Vec<(Key, Option<Row>)> {
-        let Self { seen: _, rows } = self;
+        let Self {
+            alloc: _,
+            def: _,
+            seen: _,
+            rows,
+        } = self;
         rows
     }
 
-    // Takes in the entries that the text gives of a position.
-    fn read<S: Alter>(
-        &mut self,
-        alloc: Global,
-        tx: &mut Transaction<'_, S>,
-        text: &str,
-        since: i64,
-        def: &TableDef,
-    ) -> Result<(), StoreFault> {
-        let mut stored = tx.query(text, &[ValueRef::Int(since)])?;
-        for _ in 0..u64::MAX {
-            stored.advance()?;
-            match stored.get() {
-                None => return Ok(()),
-                Some(entry) => self.add(alloc, def, entry)?,
-            }
+    // Takes in an entry of this key.
+    fn add(&mut self, key: Key, stored: &sqlite::Row) -> Result<(), StoreFault> {
+        match self.is_first(&key) {
+            Ok(true) => self.put(key, stored),
+            Ok(false) => Ok(()),
+            Err(fault) => Err(fault),
         }
-        Ok(())
-    }
-
-    // Takes in an entry of the log.
-    fn add(
-        &mut self,
-        alloc: Global,
-        def: &TableDef,
-        entry: &sqlite::Row,
-    ) -> Result<(), StoreFault> {
-        let key = key_of(alloc, def, entry)?;
-        if self.is_first(alloc, &key)? {
-            let old = old_row(alloc, def, entry)?;
-            self.rows.push((key, old))?;
-        }
-        Ok(())
     }
 
     // Whether the key wasn't met before.
-    fn is_first(&mut self, alloc: Global, key: &Key) -> Result<bool, StoreFault> {
-        let key = key.copied(alloc)?;
-        let new = self.seen.insert(key, Row::from_vec(Vec::new(alloc)))?;
-        Ok(new)
+    fn is_first(&mut self, key: &Key) -> Result<bool, StoreFault> {
+        let key = key.copied(self.alloc)?;
+        match self.seen.insert(key, Row::from_vec(Vec::new(self.alloc))) {
+            Ok(new) => Ok(new),
+            Err(_) => Err(StoreFault::Memory),
+        }
+    }
+
+    // Puts a key with the row of its first entry behind the others.
+    fn put(&mut self, key: Key, stored: &sqlite::Row) -> Result<(), StoreFault> {
+        match old_row(self.alloc, self.def, stored) {
+            Ok(old) => put_first(&mut self.rows, key, old),
+            Err(fault) => Err(fault),
+        }
+    }
+}
+
+fn put_first(
+    rows: &mut Vec<(Key, Option<Row>)>,
+    key: Key,
+    old: Option<Row>,
+) -> Result<(), StoreFault> {
+    match rows.push((key, old)) {
+        Ok(()) => Ok(()),
+        Err(_) => Err(StoreFault::Memory),
     }
 }
 
@@ -216,21 +281,19 @@ fn old_row(alloc: Global, def: &TableDef, stored: &sqlite::Row) -> Result<Option
     let keys = def.primary_key.len();
     match stored.get_ref(keys)? {
         ValueRef::Int(0) => Ok(None),
-        _ => {
-            let row = row_behind(
-                alloc,
-                def.columns.as_slice(),
-                stored,
-                keys.saturating_add(1),
-            )?;
-            Ok(Some(row))
-        }
+        _ => row_behind(
+            alloc,
+            def.columns.as_slice(),
+            stored,
+            keys.saturating_add(1),
+        )
+        .map(Some),
     }
 }
 
-fn touched_in<S: Alter>(
+fn touched_in<S: Store>(
     alloc: Global,
-    tx: &mut Transaction<'_, S>,
+    tx: &mut S,
     shelf: &Shelf,
     tree: &Tree,
     log: &[RowChange],
@@ -242,9 +305,9 @@ fn touched_in<S: Alter>(
 }
 
 // The instances of these roots.
-fn instances_at<S: Alter>(
+fn instances_at<S: Store>(
     alloc: Global,
-    tx: &mut Transaction<'_, S>,
+    tx: &mut S,
     shelf: &Shelf,
     tree: &Tree,
     roots: &Rows,
@@ -260,22 +323,26 @@ fn instances_at<S: Alter>(
     Ok(Seq::from_vec(out))
 }
 
-fn instance_at<S: Alter>(
+fn instance_at<S: Store>(
     alloc: Global,
-    tx: &mut Transaction<'_, S>,
+    tx: &mut S,
     shelf: &Shelf,
     tree: &Tree,
     root: &Key,
 ) -> Result<Instance, StoreFault> {
-    let rows = rows_under(alloc, tx, shelf, tree, root)?;
-    let root = root.copied(alloc)?;
-    Ok(Instance { root, rows })
+    match rows_under(alloc, tx, shelf, tree, root) {
+        Ok(rows) => match root.copied(alloc) {
+            Ok(root) => Ok(Instance { root, rows }),
+            Err(_) => Err(StoreFault::Memory),
+        },
+        Err(fault) => Err(fault),
+    }
 }
 
 // The root keys of the instances that a want names.
-fn wanted_roots<S: Alter>(
+fn wanted_roots<S: Store>(
     alloc: Global,
-    tx: &mut Transaction<'_, S>,
+    tx: &mut S,
     shelf: &Shelf,
     tree: &Tree,
     wants: &[RowKey],
@@ -288,9 +355,9 @@ fn wanted_roots<S: Alter>(
 }
 
 // These, and those of the instances that the changes touch.
-fn touched_roots<S: Alter>(
+fn touched_roots<S: Store>(
     alloc: Global,
-    tx: &mut Transaction<'_, S>,
+    tx: &mut S,
     shelf: &Shelf,
     tree: &Tree,
     log: &[RowChange],
@@ -304,38 +371,38 @@ fn touched_roots<S: Alter>(
 }
 
 // The root keys that the row of a change was and is reached from come to these.
-fn add_roots<S: Alter>(
+fn add_roots<S: Store>(
     alloc: Global,
-    tx: &mut Transaction<'_, S>,
+    tx: &mut S,
     shelf: &Shelf,
     tree: &Tree,
     change: &RowChange,
     roots: &mut Rows,
 ) -> Result<(), StoreFault> {
-    let old = old_root(alloc, tx, shelf, tree, change)?;
-    put_root(alloc, old, roots)?;
-    add_root(alloc, tx, shelf, tree, change.table, &change.key, roots)
+    match put_root(alloc, old_root(alloc, tx, shelf, tree, change), roots) {
+        Ok(()) => add_root(alloc, tx, shelf, tree, change.table, &change.key, roots),
+        Err(fault) => Err(fault),
+    }
 }
 
 // The root key that the row of a key is reached from comes to these.
-fn add_root<S: Alter>(
+fn add_root<S: Store>(
     alloc: Global,
-    tx: &mut Transaction<'_, S>,
+    tx: &mut S,
     shelf: &Shelf,
     tree: &Tree,
     table: TableId,
     key: &Key,
     roots: &mut Rows,
 ) -> Result<(), StoreFault> {
-    let found = root_of(alloc, tx, shelf, tree, table, key)?;
-    put_root(alloc, found, roots)
+    put_root(alloc, root_of(alloc, tx, shelf, tree, table, key), roots)
 }
 
 // The root key that the row of a change was reached from: a root row's own, and of a child row that had a parent row
 // the one that this is reached from now.
-fn old_root<S: Alter>(
+fn old_root<S: Store>(
     alloc: Global,
-    tx: &mut Transaction<'_, S>,
+    tx: &mut S,
     shelf: &Shelf,
     tree: &Tree,
     change: &RowChange,
@@ -344,8 +411,10 @@ fn old_root<S: Alter>(
         return Ok(None);
     };
     if place == 0 {
-        let key = change.key.copied(alloc)?;
-        return Ok(Some(key));
+        return match change.key.copied(alloc) {
+            Ok(key) => Ok(Some(key)),
+            Err(_) => Err(StoreFault::Memory),
+        };
     }
     match (tree.children.get(place - 1), &change.old) {
         (Some(child), Some(row)) => root_above(alloc, tx, shelf, tree, child, row),
@@ -353,9 +422,9 @@ fn old_root<S: Alter>(
     }
 }
 
-fn root_above<S: Alter>(
+fn root_above<S: Store>(
     alloc: Global,
-    tx: &mut Transaction<'_, S>,
+    tx: &mut S,
     shelf: &Shelf,
     tree: &Tree,
     child: &Child,
@@ -363,20 +432,24 @@ fn root_above<S: Alter>(
 ) -> Result<Option<Key>, StoreFault> {
     match (tree.table_of(child.parent), shelf.def(child.table)) {
         (Some(parent), Some(def)) => {
-            let key = key_at(alloc, foreign_places(&def.foreign_key), row)?;
-            root_of(alloc, tx, shelf, tree, parent, &key)
+            match key_at(alloc, foreign_places(&def.foreign_key), row) {
+                Ok(key) => root_of(alloc, tx, shelf, tree, parent, &key),
+                Err(_) => Err(StoreFault::Memory),
+            }
         }
         _ => Ok(None),
     }
 }
 
 // A root key that was found comes to these. The roots are kept as the keys of rows without values.
-fn put_root(alloc: Global, found: Option<Key>, roots: &mut Rows) -> Result<(), StoreFault> {
+fn put_root(
+    alloc: Global,
+    found: Result<Option<Key>, StoreFault>,
+    roots: &mut Rows,
+) -> Result<(), StoreFault> {
     match found {
-        None => Ok(()),
-        Some(root) => {
-            let _ = roots.insert(root, Row::from_vec(Vec::new(alloc)))?;
-            Ok(())
-        }
+        Ok(None) => Ok(()),
+        Ok(Some(root)) => put_row(roots, root, Row::from_vec(Vec::new(alloc))),
+        Err(fault) => Err(fault),
     }
 }

@@ -5,22 +5,22 @@ use crate::fault::StoreFault;
 use crate::judging::table_at;
 use crate::schema_rows::write_def;
 use crate::shelf::Shelf;
+use crate::store::{Base, Store, end};
 use crate::texts::{create_text, index_text};
 use crate::writing::{add_entry, give};
-use sqlite::{Alter, Connection, Transaction};
 use std::alloc::Global;
 use table_defs::TableDef;
 
 /// Makes a table, in one transaction of the store. After an error the shelf is as it was.
-pub(crate) fn define<S: Alter>(
+pub(crate) fn define(
     alloc: Global,
-    conn: &mut Connection<S>,
+    base: &mut Base,
     shelf: &mut Shelf,
     def: &TableDef,
 ) -> Result<(), StoreFault> {
     let place = table_at(shelf.schema().len())?.0;
     shelf.push(alloc, def.copied(alloc)?)?;
-    match make(alloc, conn, shelf, place, def) {
+    match make(alloc, base, shelf, place, def) {
         Ok(()) => Ok(()),
         Err(fault) => {
             shelf.pop();
@@ -29,27 +29,28 @@ pub(crate) fn define<S: Alter>(
     }
 }
 
-fn make<S: Alter>(
+fn make(
     alloc: Global,
-    conn: &mut Connection<S>,
+    base: &mut Base,
     shelf: &Shelf,
     place: u32,
     def: &TableDef,
 ) -> Result<(), StoreFault> {
-    if !conn.is_autocommit() {
-        return Err(StoreFault::Failed);
-    }
-    let mut tx = conn.transaction();
-    make_in(alloc, &mut tx, shelf, place, def)?;
-    match tx.commit() {
-        Ok(()) => Ok(()),
-        Err(error) => Err(StoreFault::from(error)),
+    match base.begin() {
+        Ok(mut tx) => {
+            let done = make_in(alloc, &mut tx, shelf, place, def);
+            match end(tx, done.is_ok()) {
+                Ok(()) => done,
+                Err(fault) => Err(fault),
+            }
+        }
+        Err(fault) => Err(fault),
     }
 }
 
-fn make_in<S: Alter>(
+fn make_in<S: Store>(
     alloc: Global,
-    tx: &mut Transaction<'_, S>,
+    tx: &mut S,
     shelf: &Shelf,
     place: u32,
     def: &TableDef,
@@ -61,9 +62,9 @@ fn make_in<S: Alter>(
     add_entry(tx).map(|_| ())
 }
 
-fn make_table<S: Alter>(
+fn make_table<S: Store>(
     alloc: Global,
-    tx: &mut Transaction<'_, S>,
+    tx: &mut S,
     shelf: &Shelf,
     def: &TableDef,
 ) -> Result<(), StoreFault> {
@@ -75,11 +76,7 @@ fn make_table<S: Alter>(
     give(tx, text.as_str(), &[])
 }
 
-fn make_index<S: Alter>(
-    alloc: Global,
-    tx: &mut Transaction<'_, S>,
-    def: &TableDef,
-) -> Result<(), StoreFault> {
+fn make_index<S: Store>(alloc: Global, tx: &mut S, def: &TableDef) -> Result<(), StoreFault> {
     match &def.foreign_key {
         None => Ok(()),
         Some(foreign) => {

@@ -1,44 +1,52 @@
 //! Transactions of the console, and copies of the tables.
 
+ghost use Rattle.table_state.specs.Keyed.{IsKeyed};
+
 use crate::closure::Choice;
 use crate::fault::StoreFault;
 use crate::loading::load;
 use crate::reading::entries;
 use crate::shelf::Shelf;
+use crate::store::{Base, Store, end, end_reading};
 use crate::values::LogPlace;
 use crate::writing::{add_entry, do_op, next_entry};
 use evaluator::Change;
 use outside::{Done, Snapshot};
-use sqlite::{Alter, Connection, Transaction};
 use std::alloc::Global;
-use table_state::{ApplyError, Op};
+use table_state::{ApplyError, Op, Tables};
 use tier_base::{Position, TableId};
 use transactions::write_all;
 
 /// Does the writes of a transaction of the console, all of them or none, in one transaction of the store.
-pub(crate) fn foreign<S: Alter>(
+pub(crate) fn foreign(
     alloc: Global,
-    conn: &mut Connection<S>,
+    base: &mut Base,
     shelf: &Shelf,
     changes: &[Change],
 ) -> Result<Done, StoreFault> {
-    if !conn.is_autocommit() {
-        return Err(StoreFault::Failed);
-    }
-    let mut tx = conn.transaction();
-    let done = foreign_in(alloc, &mut tx, shelf, changes)?;
-    match &done {
-        Done::Broken(_) => Ok(done),
-        Done::Rows(_) => match tx.commit() {
-            Ok(()) => Ok(done),
-            Err(error) => Err(StoreFault::from(error)),
-        },
+    match base.begin() {
+        Ok(mut tx) => {
+            let done = foreign_in(alloc, &mut tx, shelf, changes);
+            match end(tx, is_written(&done)) {
+                Ok(()) => done,
+                Err(fault) => Err(fault),
+            }
+        }
+        Err(fault) => Err(fault),
     }
 }
 
-fn foreign_in<S: Alter>(
+/// Whether rows were written.
+pub(crate) fn is_written(done: &Result<Done, StoreFault>) -> bool {
+    match done {
+        Ok(Done::Rows(_)) => true,
+        _ => false,
+    }
+}
+
+fn foreign_in<S: Store>(
     alloc: Global,
-    tx: &mut Transaction<'_, S>,
+    tx: &mut S,
     shelf: &Shelf,
     changes: &[Change],
 ) -> Result<Done, StoreFault> {
@@ -54,14 +62,30 @@ fn foreign_in<S: Alter>(
 
 /// Does writes, all of them or none. They are judged on copies of their tables, and of those that refer to these or are
 /// referred to. After an error what was done is still to be taken back.
-pub(crate) fn write_in<S: Alter>(
+pub(crate) fn write_in<S: Store>(
     alloc: Global,
-    tx: &mut Transaction<'_, S>,
+    tx: &mut S,
     shelf: &Shelf,
     changes: &[Change],
 ) -> Result<Done, StoreFault> {
     let choice = family_of(alloc, shelf, changes)?;
-    let mut tables = load(alloc, tx, shelf, &choice)?;
+    match load(alloc, tx, shelf, &choice) {
+        Ok(tables) => write_on(alloc, tx, shelf, tables, changes),
+        Err(fault) => Err(fault),
+    }
+}
+
+// Does the writes, which are judged on these tables.
+fn write_on<S: Store>(
+    alloc: Global,
+    tx: &mut S,
+    shelf: &Shelf,
+    tables: Tables,
+    changes: &[Change],
+) -> Result<Done, StoreFault>
+    requires { IsKeyed tables }
+{
+    let mut tables = tables;
     match write_all(alloc, &mut tables, changes) {
         Ok(written) => match write_ops(alloc, tx, shelf, written.ops.as_slice()) {
             Ok(()) => Ok(Done::Rows(written.rows as u64)),
@@ -90,9 +114,9 @@ fn refused(error: ApplyError) -> Result<Done, StoreFault> {
     }
 }
 
-fn write_ops<S: Alter>(
+fn write_ops<S: Store>(
     alloc: Global,
-    tx: &mut Transaction<'_, S>,
+    tx: &mut S,
     shelf: &Shelf,
     ops: &[Op],
 ) -> Result<(), StoreFault> {
@@ -106,22 +130,25 @@ fn write_ops<S: Alter>(
 }
 
 /// The definitions of all tables and the rows of these, with the number of entries. Nothing changes.
-pub(crate) fn snapshot<S: Alter>(
+pub(crate) fn snapshot(
     alloc: Global,
-    conn: &mut Connection<S>,
+    base: &mut Base,
     shelf: &Shelf,
     asked: &[TableId],
 ) -> Result<Snapshot, StoreFault> {
-    if !conn.is_autocommit() {
-        return Err(StoreFault::Failed);
+    match base.begin() {
+        Ok(mut tx) => {
+            let found = snapshot_in(alloc, &mut tx, shelf, asked);
+            end_reading(tx);
+            found
+        }
+        Err(fault) => Err(fault),
     }
-    let mut tx = conn.transaction();
-    snapshot_in(alloc, &mut tx, shelf, asked)
 }
 
-fn snapshot_in<S: Alter>(
+fn snapshot_in<S: Store>(
     alloc: Global,
-    tx: &mut Transaction<'_, S>,
+    tx: &mut S,
     shelf: &Shelf,
     asked: &[TableId],
 ) -> Result<Snapshot, StoreFault> {
@@ -130,13 +157,46 @@ fn snapshot_in<S: Alter>(
         choice.add(*table);
     }
     let own = choice.len();
-    choice.add_parents(shelf.schema())?;
-    let position = Position(entries(tx)?);
-    let all = load(alloc, tx, shelf, &choice)?;
-    let tables = if choice.len() == own {
-        all
-    } else {
-        all.copied_of(alloc, asked)?
-    };
-    Ok(Snapshot { position, tables })
+    match choice.add_parents(shelf.schema()) {
+        Ok(()) => snapshot_with(alloc, tx, shelf, &choice, own, asked),
+        Err(fault) => Err(fault),
+    }
+}
+
+// The snapshot, where these tables are read, and so many of them are asked for.
+fn snapshot_with<S: Store>(
+    alloc: Global,
+    tx: &mut S,
+    shelf: &Shelf,
+    choice: &Choice,
+    own: usize,
+    asked: &[TableId],
+) -> Result<Snapshot, StoreFault> {
+    let count = entries(tx)?;
+    match load(alloc, tx, shelf, choice) {
+        Ok(all) => match only(alloc, all, choice.len() == own, asked) {
+            Ok(tables) => Ok(Snapshot {
+                position: Position(count),
+                tables,
+            }),
+            Err(fault) => Err(fault),
+        },
+        Err(fault) => Err(fault),
+    }
+}
+
+// The tables with the rows of those that are asked for, which may be all that have rows.
+fn only(
+    alloc: Global,
+    tables: Tables,
+    are_all: bool,
+    asked: &[TableId],
+) -> Result<Tables, StoreFault> {
+    if are_all {
+        return Ok(tables);
+    }
+    match tables.copied_of(alloc, asked) {
+        Ok(copy) => Ok(copy),
+        Err(_) => Err(StoreFault::Memory),
+    }
 }

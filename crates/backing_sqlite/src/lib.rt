@@ -18,6 +18,7 @@ mod reading;
 pub mod real_site;
 mod schema_rows;
 mod shelf;
+mod store;
 mod texts;
 mod values;
 mod writing;

@@ -7,8 +7,8 @@ use crate::closure::Choice;
 use crate::fault::StoreFault;
 use crate::judging::table_at;
 use crate::shelf::Shelf;
+use crate::store::{Store, TakesRows};
 use crate::values::row_of;
-use sqlite::{Alter, Transaction};
 use std::alloc::Global;
 use table_defs::TableDef;
 use table_state::scan_laws::keyed_law;
@@ -17,9 +17,9 @@ use tier_base::TableId;
 
 /// All tables, with rows of the chosen ones alone. Those that the chosen ones refer to have to be chosen too. It fails
 /// where a row breaks a rule of its table.
-pub(crate) fn load<S: Alter>(
+pub(crate) fn load<S: Store>(
     alloc: Global,
-    tx: &mut Transaction<'_, S>,
+    tx: &mut S,
     shelf: &Shelf,
     choice: &Choice,
 ) -> Result<Tables, StoreFault>
@@ -29,7 +29,7 @@ pub(crate) fn load<S: Alter>(
     for (place, def) in shelf.schema().as_slice().iter().enumerate() {
         let table = table_at(place)?;
         if choice.has(table) {
-            load_rows(alloc, tx, shelf, table, def, &mut tables)?;
+            tables = load_rows(alloc, tx, shelf, table, def, tables)?;
         }
     }
     Ok(tables)
@@ -58,40 +58,73 @@ fn after(alloc: Global, entries: &[Entry]) -> Result<Tables, StoreFault>
     }
 }
 
-fn load_rows<S: Alter>(
+// Puts in the rows of a table.
+fn load_rows<S: Store>(
     alloc: Global,
-    tx: &mut Transaction<'_, S>,
+    tx: &mut S,
     shelf: &Shelf,
     table: TableId,
     def: &TableDef,
-    tables: &mut Tables,
-) -> Result<(), StoreFault>
-    requires { IsKeyed tables.old }
-    ensures keyed { IsKeyed tables.new }
+    tables: Tables,
+) -> Result<Tables, StoreFault>
+    requires { IsKeyed tables }
+    ensures keyed { IfOk result IsKeyed }
 {
-    let mut rows = tx.query(shelf.texts(table)?.all.as_str(), &[])?;
-    for _ in 0..u64::MAX {
-        rows.advance()?;
-        match rows.get() {
-            None => return Ok(()),
-            Some(stored) => load_row(alloc, table, def, stored, tables)?,
-        }
-    }
-    Ok(())
+    let text = shelf.texts(table)?.all.as_str();
+    let mut loaded = Loaded {
+        alloc,
+        table,
+        def,
+        tables,
+    };
+    tx.each_row(text, &[], &mut loaded)?;
+    Ok(loaded.into_tables())
 }
 
-fn load_row(
+// Tables, of which one gets its rows.
+struct Loaded<'a> {
     alloc: Global,
     table: TableId,
-    def: &TableDef,
-    stored: &sqlite::Row,
-    tables: &mut Tables,
-) -> Result<(), StoreFault>
-    requires { IsKeyed tables.old }
-    ensures keyed { IsKeyed tables.new }
-{
-    let row = row_of(alloc, def.columns.as_slice(), stored)?;
-    put(alloc, tables, &[Op::Insert(table, row)])
+    def: &'a TableDef,
+    tables: Tables,
+}
+
+impl Drop for Loaded<'_> {
+    fn drop(self) {
+        let Self {
+            alloc: _,
+            table: _,
+            def: _,
+            tables: _,
+        } = self;
+    }
+}
+
+impl TakesRows for Loaded<'_> {
+    ghost use Rattle.table_state.specs.Keyed.{IsKeyed};
+
+    ghost keeps = { λ loaded. IsKeyed loaded.tables };
+
+    fn take(&mut self, stored: &sqlite::Row) -> Result<(), StoreFault> {
+        let row = row_of(self.alloc, self.def.columns.as_slice(), stored)?;
+        put(self.alloc, &mut self.tables, &[Op::Insert(self.table, row)])
+    }
+}
+
+impl Loaded<'_> {
+    ghost use Rattle.std.specs.Prelude.{◌≡◌};
+
+    fn into_tables(self) -> Tables
+        ensures { result ≡ self.entry.tables }
+    {
+        let Self {
+            alloc: _,
+            table: _,
+            def: _,
+            tables,
+        } = self;
+        tables
+    }
 }
 
 fn put(alloc: Global, tables: &mut Tables, ops: &[Op]) -> Result<(), StoreFault>

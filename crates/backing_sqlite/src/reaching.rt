@@ -3,39 +3,59 @@
 use crate::fault::StoreFault;
 use crate::reading::{entries, row_at};
 use crate::shelf::Shelf;
+use crate::store::{Base, Store, TakesRows, end_reading};
 use crate::values::{lent_all, row_of};
 use indexed_rows::{Rows, key_at};
 use instances::{Child, Root, Tree, foreign_places, selects};
 use outside::{Instance, Reached};
 use row_types::{Key, Row};
-use sqlite::types::ValueRef;
-use sqlite::{Alter, Connection, Transaction};
 use std::alloc::Global;
 use table_defs::TableDef;
 use table_state::key_of_row;
 use tier_base::{Position, Seq, TableId};
 
 /// The instance that the row of a key is in, with the number of entries, read in a transaction of its own.
-pub(crate) fn reach<S: Alter>(
+pub(crate) fn reach(
     alloc: Global,
-    conn: &mut Connection<S>,
+    base: &mut Base,
     shelf: &Shelf,
     tree: &Tree,
     table: TableId,
     key: &Key,
 ) -> Result<Reached, StoreFault> {
-    if !conn.is_autocommit() {
-        return Err(StoreFault::Failed);
+    match base.begin() {
+        Ok(mut tx) => {
+            let found = reach_in(alloc, &mut tx, shelf, tree, table, key);
+            end_reading(tx);
+            found
+        }
+        Err(fault) => Err(fault),
     }
-    let mut tx = conn.transaction();
-    let position = Position(entries(&mut tx)?);
-    let instance = instance_with(alloc, &mut tx, shelf, tree, table, key)?;
-    Ok(Reached { position, instance })
 }
 
-fn instance_with<S: Alter>(
+fn reach_in<S: Store>(
     alloc: Global,
-    tx: &mut Transaction<'_, S>,
+    tx: &mut S,
+    shelf: &Shelf,
+    tree: &Tree,
+    table: TableId,
+    key: &Key,
+) -> Result<Reached, StoreFault> {
+    match entries(tx) {
+        Ok(count) => match instance_with(alloc, tx, shelf, tree, table, key) {
+            Ok(instance) => Ok(Reached {
+                position: Position(count),
+                instance,
+            }),
+            Err(fault) => Err(fault),
+        },
+        Err(fault) => Err(fault),
+    }
+}
+
+fn instance_with<S: Store>(
+    alloc: Global,
+    tx: &mut S,
     shelf: &Shelf,
     tree: &Tree,
     table: TableId,
@@ -43,19 +63,29 @@ fn instance_with<S: Alter>(
 ) -> Result<Option<Instance>, StoreFault> {
     match root_of(alloc, tx, shelf, tree, table, key) {
         Ok(None) => Ok(None),
-        Ok(Some(root)) => {
-            let rows = rows_under(alloc, tx, shelf, tree, &root)?;
-            Ok(Some(Instance { root, rows }))
-        }
+        Ok(Some(root)) => instance_at(alloc, tx, shelf, tree, root).map(Some),
+        Err(fault) => Err(fault),
+    }
+}
+
+fn instance_at<S: Store>(
+    alloc: Global,
+    tx: &mut S,
+    shelf: &Shelf,
+    tree: &Tree,
+    root: Key,
+) -> Result<Instance, StoreFault> {
+    match rows_under(alloc, tx, shelf, tree, &root) {
+        Ok(rows) => Ok(Instance { root, rows }),
         Err(fault) => Err(fault),
     }
 }
 
 /// The key of the root row that the row of a key is reached from, whatever the WHERE conditions say. It goes over at
 /// most as many foreign keys as the tree has children.
-pub(crate) fn root_of<S: Alter>(
+pub(crate) fn root_of<S: Store>(
     alloc: Global,
-    tx: &mut Transaction<'_, S>,
+    tx: &mut S,
     shelf: &Shelf,
     tree: &Tree,
     table: TableId,
@@ -66,23 +96,39 @@ pub(crate) fn root_of<S: Alter>(
     };
     let mut place = start;
     let mut key = key.copied(alloc)?;
+    match climb(alloc, tx, shelf, tree, &mut place, &mut key) {
+        Ok(()) => if_root(alloc, tx, shelf, tree, place, key),
+        Err(fault) => Err(fault),
+    }
+}
+
+// Goes from a place and a key of it over foreign keys, as far up as there are rows.
+fn climb<S: Store>(
+    alloc: Global,
+    tx: &mut S,
+    shelf: &Shelf,
+    tree: &Tree,
+    place: &mut usize,
+    key: &mut Key,
+) -> Result<(), StoreFault> {
     for _ in 0..tree.children.len() {
-        match above(alloc, tx, shelf, tree, place, &key)? {
-            None => break,
-            Some((parent, parent_key)) => {
-                place = parent;
-                key = parent_key;
+        match above(alloc, tx, shelf, tree, *place, key) {
+            Ok(None) => return Ok(()),
+            Ok(Some((parent, parent_key))) => {
+                *place = parent;
+                *key = parent_key;
             }
+            Err(fault) => return Err(fault),
         }
     }
-    if_root(alloc, tx, shelf, tree, place, key)
+    Ok(())
 }
 
 // The place of the parent table, and the key that the foreign key of this place's key names; none at the root, and
 // where there is none.
-fn above<S: Alter>(
+fn above<S: Store>(
     alloc: Global,
-    tx: &mut Transaction<'_, S>,
+    tx: &mut S,
     shelf: &Shelf,
     tree: &Tree,
     place: usize,
@@ -102,9 +148,9 @@ fn above<S: Alter>(
 }
 
 // The key, where it is one of the root table's and its row is there.
-fn if_root<S: Alter>(
+fn if_root<S: Store>(
     alloc: Global,
-    tx: &mut Transaction<'_, S>,
+    tx: &mut S,
     shelf: &Shelf,
     tree: &Tree,
     place: usize,
@@ -121,9 +167,9 @@ fn if_root<S: Alter>(
 }
 
 // The key that the foreign key of this key's row names.
-fn parent_key<S: Alter>(
+fn parent_key<S: Store>(
     alloc: Global,
-    tx: &mut Transaction<'_, S>,
+    tx: &mut S,
     shelf: &Shelf,
     table: TableId,
     key: &Key,
@@ -133,35 +179,61 @@ fn parent_key<S: Alter>(
     };
     match row_at(alloc, tx, shelf, table, key) {
         Ok(None) => Ok(None),
-        Ok(Some(row)) => {
-            let parent = key_at(alloc, foreign_places(&def.foreign_key), &row)?;
-            Ok(Some(parent))
-        }
+        Ok(Some(row)) => match key_at(alloc, foreign_places(&def.foreign_key), &row) {
+            Ok(parent) => Ok(Some(parent)),
+            Err(_) => Err(StoreFault::Memory),
+        },
         Err(fault) => Err(fault),
     }
 }
 
 /// For each table of the tree the rows of the view that are reached from the root row of this key.
-pub(crate) fn rows_under<S: Alter>(
+pub(crate) fn rows_under<S: Store>(
     alloc: Global,
-    tx: &mut Transaction<'_, S>,
+    tx: &mut S,
     shelf: &Shelf,
     tree: &Tree,
     root: &Key,
 ) -> Result<Seq<Rows>, StoreFault> {
-    let first = root_rows(alloc, tx, shelf, &tree.root, root)?;
+    match root_rows(alloc, tx, shelf, &tree.root, root) {
+        Ok(first) => rows_from(alloc, tx, shelf, tree, first),
+        Err(fault) => Err(fault),
+    }
+}
+
+fn rows_from<S: Store>(
+    alloc: Global,
+    tx: &mut S,
+    shelf: &Shelf,
+    tree: &Tree,
+    first: Rows,
+) -> Result<Seq<Rows>, StoreFault> {
     let mut kept = vec![in alloc; first]?;
+    match add_tables(alloc, tx, shelf, tree, &mut kept) {
+        Ok(()) => Ok(Seq::from_vec(kept)),
+        Err(fault) => Err(fault),
+    }
+}
+
+// Puts the rows of each child behind those kept.
+fn add_tables<S: Store>(
+    alloc: Global,
+    tx: &mut S,
+    shelf: &Shelf,
+    tree: &Tree,
+    kept: &mut Vec<Rows>,
+) -> Result<(), StoreFault> {
     for child in tree.children.as_slice() {
         let rows = child_rows(alloc, tx, shelf, kept.as_slice(), child)?;
         kept.push(rows)?;
     }
-    Ok(Seq::from_vec(kept))
+    Ok(())
 }
 
 // The root row, where its WHERE selects it.
-fn root_rows<S: Alter>(
+fn root_rows<S: Store>(
     alloc: Global,
-    tx: &mut Transaction<'_, S>,
+    tx: &mut S,
     shelf: &Shelf,
     root: &Root,
     key: &Key,
@@ -174,84 +246,147 @@ fn root_rows<S: Alter>(
 }
 
 fn selected_root(alloc: Global, root: &Root, key: &Key, row: Row) -> Result<Rows, StoreFault> {
-    let mut rows = Rows::new(alloc);
-    if selects(&root.filter, &row) {
-        let _ = rows.insert(key.copied(alloc)?, row)?;
+    if !selects(&root.filter, &row) {
+        return Ok(Rows::new(alloc));
     }
-    Ok(rows)
+    match key.copied(alloc) {
+        Ok(key) => one_row(alloc, key, row),
+        Err(_) => Err(StoreFault::Memory),
+    }
+}
+
+fn one_row(alloc: Global, key: Key, row: Row) -> Result<Rows, StoreFault> {
+    let mut rows = Rows::new(alloc);
+    match put_row(&mut rows, key, row) {
+        Ok(()) => Ok(rows),
+        Err(fault) => Err(fault),
+    }
+}
+
+/// Puts a row in at its key.
+pub(crate) fn put_row(rows: &mut Rows, key: Key, row: Row) -> Result<(), StoreFault> {
+    match rows.insert(key, row) {
+        Ok(_) => Ok(()),
+        Err(_) => Err(StoreFault::Memory),
+    }
 }
 
 // The rows that refer to those kept at the parent's place, and that the child's WHERE selects.
-fn child_rows<S: Alter>(
+fn child_rows<S: Store>(
     alloc: Global,
-    tx: &mut Transaction<'_, S>,
+    tx: &mut S,
     shelf: &Shelf,
     kept: &[Rows],
     child: &Child,
 ) -> Result<Rows, StoreFault> {
-    let mut out = Rows::new(alloc);
-    let Some(parents) = kept.get(child.parent) else {
-        return Ok(out);
+    let (Some(parents), Some(def)) = (kept.get(child.parent), shelf.def(child.table)) else {
+        return Ok(Rows::new(alloc));
     };
+    let mut selected = Selected {
+        alloc,
+        def,
+        child,
+        rows: Rows::new(alloc),
+    };
+    match add_all(alloc, tx, shelf, parents, &mut selected) {
+        Ok(()) => Ok(selected.into_rows()),
+        Err(fault) => Err(fault),
+    }
+}
+
+fn add_all<S: Store>(
+    alloc: Global,
+    tx: &mut S,
+    shelf: &Shelf,
+    parents: &Rows,
+    selected: &mut Selected<'_>,
+) -> Result<(), StoreFault> {
     for place in 0..parents.len() {
         let (parent, _) = parents.entry_at(place);
-        add_children(alloc, tx, shelf, child, parent, &mut out)?;
+        add_children(alloc, tx, shelf, parent, selected)?;
     }
-    Ok(out)
+    Ok(())
 }
 
-fn add_children<S: Alter>(
+fn add_children<S: Store>(
     alloc: Global,
-    tx: &mut Transaction<'_, S>,
+    tx: &mut S,
     shelf: &Shelf,
-    child: &Child,
     parent: &Key,
-    out: &mut Rows,
+    selected: &mut Selected<'_>,
 ) -> Result<(), StoreFault> {
-    let Some(def) = shelf.def(child.table) else {
-        return Ok(());
-    };
-    match &shelf.texts(child.table)?.children {
-        None => Ok(()),
-        Some(text) => {
-            let values = lent_all(alloc, parent.values())?;
-            add_each(alloc, tx, text.as_str(), values.as_slice(), def, child, out)
-        }
+    match shelf.texts(selected.child.table) {
+        Ok(texts) => match &texts.children {
+            None => Ok(()),
+            Some(text) => add_each(alloc, tx, text.as_str(), parent, selected),
+        },
+        Err(fault) => Err(fault),
     }
 }
 
-// The rows that the text gives, where the child's WHERE selects them.
-fn add_each<S: Alter>(
+// The rows that the text gives of this parent.
+fn add_each<S: Store>(
     alloc: Global,
-    tx: &mut Transaction<'_, S>,
+    tx: &mut S,
     text: &str,
-    values: &[ValueRef<'_>],
-    def: &TableDef,
-    child: &Child,
-    out: &mut Rows,
+    parent: &Key,
+    selected: &mut Selected<'_>,
 ) -> Result<(), StoreFault> {
-    let mut rows = tx.query(text, values)?;
-    for _ in 0..u64::MAX {
-        rows.advance()?;
-        match rows.get() {
-            None => return Ok(()),
-            Some(stored) => add_selected(alloc, def, child, stored, out)?,
-        }
+    match lent_all(alloc, parent.values()) {
+        Ok(values) => tx.each_row(text, values.as_slice(), selected),
+        Err(fault) => Err(fault),
     }
-    Ok(())
 }
 
-fn add_selected(
+// The rows of a child that its WHERE selects.
+struct Selected<'a> {
     alloc: Global,
-    def: &TableDef,
-    child: &Child,
-    stored: &sqlite::Row,
-    out: &mut Rows,
-) -> Result<(), StoreFault> {
-    let row = row_of(alloc, def.columns.as_slice(), stored)?;
-    if selects(&child.filter, &row) {
-        let key = key_of_row(alloc, def, &row)?;
-        let _ = out.insert(key, row)?;
+    def: &'a TableDef,
+    child: &'a Child,
+    rows: Rows,
+}
+
+impl Drop for Selected<'_> {
+    fn drop(self) {
+        let Self {
+            alloc: _,
+            def: _,
+            child: _,
+            rows: _,
+        } = self;
     }
-    Ok(())
+}
+
+impl TakesRows for Selected<'_> {
+    ghost keeps = { λ _. Unit {0} };
+
+    // Takes in a row, where the WHERE selects it.
+    fn take(&mut self, stored: &sqlite::Row) -> Result<(), StoreFault> {
+        match row_of(self.alloc, self.def.columns.as_slice(), stored) {
+            Ok(row) => self.put(row),
+            Err(fault) => Err(fault),
+        }
+    }
+}
+
+impl Selected<'_> {
+    fn put(&mut self, row: Row) -> Result<(), StoreFault> {
+        if !selects(&self.child.filter, &row) {
+            return Ok(());
+        }
+        match key_of_row(self.alloc, self.def, &row) {
+            Ok(key) => put_row(&mut self.rows, key, row),
+            Err(_) => Err(StoreFault::Memory),
+        }
+    }
+
+    fn into_rows(self) -> Rows {
+        let Self {
+            alloc: _,
+            def: _,
+            child: _,
+            rows,
+        } = self;
+        rows
+    }
 }

@@ -4,47 +4,25 @@ ghost use Rattle.backing_sqlite.specs.Waiting.{MissesOne};
 
 use crate::fault::StoreFault;
 use crate::shelf::Shelf;
+use crate::store::{Base, Store, end_reading};
 use crate::values::{is_key_of, key_of, lent_all, row_of};
 use row_types::{Key, Row};
 use sqlite::types::ValueRef;
-use sqlite::{Alter, Connection, Error, Transaction};
 use std::alloc::Global;
+use table_defs::TableDef;
 use tier_base::{TableId, Ticket};
 
-/// The first row of the answer, where there is one.
-pub(crate) fn first_row<S: Alter>(
-    tx: &mut Transaction<'_, S>,
-    sql: &str,
-    values: &[ValueRef<'_>],
-) -> Result<Option<sqlite::Row>, StoreFault> {
-    match tx.query_row(sql, values) {
-        Ok(row) => Ok(Some(row)),
-        Err(Error::QueryReturnedNoRows) => Ok(None),
-        Err(error) => Err(StoreFault::from(error)),
-    }
-}
-
-/// All rows of the answer.
-pub(crate) fn all_rows<S: Alter>(
-    tx: &mut Transaction<'_, S>,
-    sql: &str,
-    values: &[ValueRef<'_>],
-) -> Result<Vec<sqlite::Row>, StoreFault> {
-    match tx.query_all(sql, values) {
-        Ok(rows) => Ok(rows),
-        Err(error) => Err(StoreFault::from(error)),
-    }
-}
-
 // The first row of the answer, where there is one, to a text whose parameters are a key.
-fn row_by<S: Alter>(
+fn row_by<S: Store>(
     alloc: Global,
-    tx: &mut Transaction<'_, S>,
+    tx: &mut S,
     sql: &str,
     key: &Key,
 ) -> Result<Option<sqlite::Row>, StoreFault> {
-    let values = lent_all(alloc, key.values())?;
-    first_row(tx, sql, values.as_slice())
+    match lent_all(alloc, key.values()) {
+        Ok(values) => tx.first_row(sql, values.as_slice()),
+        Err(fault) => Err(fault),
+    }
 }
 
 // The number in the only column of a row.
@@ -56,20 +34,29 @@ fn count_in(row: &sqlite::Row) -> Result<u64, StoreFault> {
 }
 
 /// The row of a key in a table; none where there is none, or no such table.
-pub(crate) fn row_at<S: Alter>(
+pub(crate) fn row_at<S: Store>(
     alloc: Global,
-    tx: &mut Transaction<'_, S>,
+    tx: &mut S,
     shelf: &Shelf,
     table: TableId,
     key: &Key,
 ) -> Result<Option<Row>, StoreFault> {
-    let Some(def) = shelf.def(table) else {
-        return Ok(None);
-    };
-    if !is_key_of(def, key) {
-        return Ok(None);
+    match shelf.def(table) {
+        Some(def) if is_key_of(def, key) => match shelf.texts(table) {
+            Ok(texts) => row_in(alloc, tx, texts.find.as_str(), def, key),
+            Err(fault) => Err(fault),
+        },
+        _ => Ok(None),
     }
-    let text = shelf.texts(table)?.find.as_str();
+}
+
+fn row_in<S: Store>(
+    alloc: Global,
+    tx: &mut S,
+    text: &str,
+    def: &TableDef,
+    key: &Key,
+) -> Result<Option<Row>, StoreFault> {
     match row_by(alloc, tx, text, key) {
         Ok(None) => Ok(None),
         Ok(Some(stored)) => row_of(alloc, def.columns.as_slice(), &stored).map(Some),
@@ -78,20 +65,31 @@ pub(crate) fn row_at<S: Alter>(
 }
 
 /// The least key of a row in `child` that refers to the key by its foreign key.
-pub(crate) fn child_key<S: Alter>(
+pub(crate) fn child_key<S: Store>(
     alloc: Global,
-    tx: &mut Transaction<'_, S>,
+    tx: &mut S,
     shelf: &Shelf,
     child: TableId,
     key: &Key,
 ) -> Result<Option<Key>, StoreFault> {
-    let Some(def) = shelf.def(child) else {
-        return Ok(None);
-    };
-    let Some(text) = &shelf.texts(child)?.child else {
-        return Ok(None);
-    };
-    match row_by(alloc, tx, text.as_str(), key) {
+    match (shelf.def(child), shelf.texts(child)) {
+        (Some(def), Ok(texts)) => match &texts.child {
+            None => Ok(None),
+            Some(text) => key_in(alloc, tx, text.as_str(), def, key),
+        },
+        (None, _) => Ok(None),
+        (Some(_), Err(fault)) => Err(fault),
+    }
+}
+
+fn key_in<S: Store>(
+    alloc: Global,
+    tx: &mut S,
+    text: &str,
+    def: &TableDef,
+    key: &Key,
+) -> Result<Option<Key>, StoreFault> {
+    match row_by(alloc, tx, text, key) {
         Ok(None) => Ok(None),
         Ok(Some(stored)) => key_of(alloc, def, &stored).map(Some),
         Err(fault) => Err(fault),
@@ -99,8 +97,8 @@ pub(crate) fn child_key<S: Alter>(
 }
 
 /// How many entries the history has.
-pub(crate) fn entries<S: Alter>(tx: &mut Transaction<'_, S>) -> Result<u64, StoreFault> {
-    match first_row(tx, "SELECT entries FROM \"ttcache-history\"", &[]) {
+pub(crate) fn entries<S: Store>(tx: &mut S) -> Result<u64, StoreFault> {
+    match tx.first_row("SELECT entries FROM \"ttcache-history\"", &[]) {
         Ok(None) => Err(StoreFault::Failed),
         Ok(Some(row)) => count_in(&row),
         Err(fault) => Err(fault),
@@ -108,24 +106,24 @@ pub(crate) fn entries<S: Alter>(tx: &mut Transaction<'_, S>) -> Result<u64, Stor
 }
 
 /// How many entries the history has, read in a transaction of its own.
-pub(crate) fn entries_now<S: Alter>(conn: &mut Connection<S>) -> Result<u64, StoreFault> {
-    if !conn.is_autocommit() {
-        return Err(StoreFault::Failed);
+pub(crate) fn entries_now(base: &mut Base) -> Result<u64, StoreFault> {
+    match base.begin() {
+        Ok(mut tx) => {
+            let found = entries(&mut tx);
+            end_reading(tx);
+            found
+        }
+        Err(fault) => Err(fault),
     }
-    let mut tx = conn.transaction();
-    entries(&mut tx)
 }
 
 /// The position of a ticket, where it is recorded.
-pub(crate) fn position_of<S: Alter>(
-    tx: &mut Transaction<'_, S>,
-    ticket: Ticket,
-) -> Result<Option<u64>, StoreFault> {
+pub(crate) fn position_of<S: Store>(tx: &mut S, ticket: Ticket) -> Result<Option<u64>, StoreFault> {
     let Ok(number) = i64::try_from(ticket.0) else {
         return Ok(None);
     };
     let text = "SELECT position FROM \"ttcache-tickets\" WHERE ticket = ?";
-    match first_row(tx, text, &[ValueRef::Int(number)]) {
+    match tx.first_row(text, &[ValueRef::Int(number)]) {
         Ok(None) => Ok(None),
         Ok(Some(row)) => count_in(&row).map(Some),
         Err(fault) => Err(fault),
@@ -133,8 +131,8 @@ pub(crate) fn position_of<S: Alter>(
 }
 
 /// The first of the tickets that isn't recorded.
-pub(crate) fn first_missing<S: Alter>(
-    tx: &mut Transaction<'_, S>,
+pub(crate) fn first_missing<S: Store>(
+    tx: &mut S,
     tickets: &[Ticket],
 ) -> Result<Option<Ticket>, StoreFault>
     ensures { MissesOne tickets.now result }
@@ -148,28 +146,38 @@ pub(crate) fn first_missing<S: Alter>(
 }
 
 /// Whether a transaction with this ticket is recorded, read in a transaction of its own.
-pub(crate) fn recorded<S: Alter>(
-    conn: &mut Connection<S>,
-    ticket: Ticket,
-) -> Result<bool, StoreFault> {
-    if !conn.is_autocommit() {
-        return Err(StoreFault::Failed);
+pub(crate) fn recorded(base: &mut Base, ticket: Ticket) -> Result<bool, StoreFault> {
+    match base.begin() {
+        Ok(mut tx) => {
+            let found = position_of(&mut tx, ticket);
+            end_reading(tx);
+            is_found(found)
+        }
+        Err(fault) => Err(fault),
     }
-    let mut tx = conn.transaction();
-    Ok(position_of(&mut tx, ticket)?.is_some())
+}
+
+fn is_found(found: Result<Option<u64>, StoreFault>) -> Result<bool, StoreFault> {
+    match found {
+        Ok(position) => Ok(position.is_some()),
+        Err(fault) => Err(fault),
+    }
 }
 
 /// The row of a key in a table, read in a transaction of its own.
-pub(crate) fn find<S: Alter>(
+pub(crate) fn find(
     alloc: Global,
-    conn: &mut Connection<S>,
+    base: &mut Base,
     shelf: &Shelf,
     table: TableId,
     key: &Key,
 ) -> Result<Option<Row>, StoreFault> {
-    if !conn.is_autocommit() {
-        return Err(StoreFault::Failed);
+    match base.begin() {
+        Ok(mut tx) => {
+            let found = row_at(alloc, &mut tx, shelf, table, key);
+            end_reading(tx);
+            found
+        }
+        Err(fault) => Err(fault),
     }
-    let mut tx = conn.transaction();
-    row_at(alloc, &mut tx, shelf, table, key)
 }

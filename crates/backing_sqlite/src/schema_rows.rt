@@ -2,65 +2,116 @@
 
 use crate::draft::text_of;
 use crate::fault::StoreFault;
-use crate::reading::all_rows;
+use crate::store::Store;
 use crate::writing::give;
 use row_types::{Column, Ty};
 use sqlite::types::{ToSql, ValueRef};
-use sqlite::{Alter, Transaction};
 use std::alloc::Global;
 use table_defs::{ForeignKey, TableDef};
 use tier_base::{Name, NameError, Seq, TableId};
 
 /// The definition of the table at a place, of which the row has name, parent and ON DELETE CASCADE.
-pub(crate) fn read_def<S: Alter>(
+pub(crate) fn read_def<S: Store>(
     alloc: Global,
-    tx: &mut Transaction<'_, S>,
+    tx: &mut S,
     place: usize,
     stored: &sqlite::Row,
 ) -> Result<TableDef, StoreFault> {
     let Ok(place) = i64::try_from(place) else {
         return Err(StoreFault::Failed);
     };
-    let name = name_at(alloc, stored, 0)?;
-    let columns = read_columns(alloc, tx, place)?;
+    match name_at(alloc, stored, 0) {
+        Ok(name) => read_named(alloc, tx, place, stored, name),
+        Err(fault) => Err(fault),
+    }
+}
+
+fn read_named<S: Store>(
+    alloc: Global,
+    tx: &mut S,
+    place: i64,
+    stored: &sqlite::Row,
+    name: Name,
+) -> Result<TableDef, StoreFault> {
+    match read_columns(alloc, tx, place) {
+        Ok(columns) => match read_keys(alloc, tx, place, stored) {
+            Ok((primary_key, foreign_key)) => Ok(TableDef {
+                name,
+                columns,
+                primary_key,
+                foreign_key,
+            }),
+            Err(fault) => Err(fault),
+        },
+        Err(fault) => Err(fault),
+    }
+}
+
+// The primary and the foreign key.
+fn read_keys<S: Store>(
+    alloc: Global,
+    tx: &mut S,
+    place: i64,
+    stored: &sqlite::Row,
+) -> Result<(Seq<usize>, Option<ForeignKey>), StoreFault> {
     let text =
         "SELECT place FROM \"ttcache-columns\" WHERE table_place = ? AND key_place IS NOT NULL ORDER BY key_place";
-    let primary_key = read_places(alloc, tx, text, place)?;
+    match read_places(alloc, tx, text, place) {
+        Ok(primary) => match read_foreign(alloc, tx, place, stored) {
+            Ok(foreign) => Ok((primary, foreign)),
+            Err(fault) => Err(fault),
+        },
+        Err(fault) => Err(fault),
+    }
+}
+
+fn read_foreign<S: Store>(
+    alloc: Global,
+    tx: &mut S,
+    place: i64,
+    stored: &sqlite::Row,
+) -> Result<Option<ForeignKey>, StoreFault> {
     let text =
         "SELECT place FROM \"ttcache-columns\" WHERE table_place = ? AND foreign_place IS NOT NULL ORDER BY foreign_place";
-    let foreign = read_places(alloc, tx, text, place)?;
-    let foreign_key = foreign_key_of(stored, foreign)?;
-    Ok(TableDef {
-        name,
-        columns,
-        primary_key,
-        foreign_key,
-    })
+    match read_places(alloc, tx, text, place) {
+        Ok(columns) => foreign_key_of(stored, columns),
+        Err(fault) => Err(fault),
+    }
 }
 
 fn foreign_key_of(
     stored: &sqlite::Row,
     columns: Seq<usize>,
 ) -> Result<Option<ForeignKey>, StoreFault> {
-    let cascade = stored.get::<bool>(2)?;
-    match stored.get::<Option<u32>>(1)? {
-        None => Ok(None),
-        Some(parent) => Ok(Some(ForeignKey {
+    match reference_in(stored) {
+        Ok(None) => Ok(None),
+        Ok(Some((parent, cascade))) => Ok(Some(ForeignKey {
             columns,
-            parent: TableId(parent),
+            parent,
             cascade,
         })),
+        Err(fault) => Err(fault),
     }
 }
 
-fn read_columns<S: Alter>(
+// The table that the foreign key refers to, and whether it has ON DELETE CASCADE.
+fn reference_in(stored: &sqlite::Row) -> Result<Option<(TableId, bool)>, StoreFault> {
+    let cascade = stored.get::<bool>(2)?;
+    match stored.get::<Option<u32>>(1) {
+        Ok(None) => Ok(None),
+        Ok(Some(parent)) => Ok(Some((TableId(parent), cascade))),
+        Err(error) => Err(StoreFault::from(error)),
+    }
+}
+
+fn read_columns<S: Store>(
     alloc: Global,
-    tx: &mut Transaction<'_, S>,
+    tx: &mut S,
     place: i64,
 ) -> Result<Seq<Column>, StoreFault> {
     let text =
         "SELECT name, type, size, scale, not_null FROM \"ttcache-columns\" WHERE table_place = ? ORDER BY place";
-    let stored = all_rows(tx, text, &[ValueRef::Int(place)])?;
+    let stored = tx.all_rows(text, &[ValueRef::Int(place)])?;
     let mut columns = Vec::with_capacity(alloc, stored.len())?;
     for row in &stored {
         columns.push(column_of(alloc, row)?)?;
@@ -130,13 +181,13 @@ fn name_at(alloc: Global, stored: &sqlite::Row, at: usize) -> Result<Name, Store
     }
 }
 
-fn read_places<S: Alter>(
+fn read_places<S: Store>(
     alloc: Global,
-    tx: &mut Transaction<'_, S>,
+    tx: &mut S,
     text: &str,
     place: i64,
 ) -> Result<Seq<usize>, StoreFault> {
-    let stored = all_rows(tx, text, &[ValueRef::Int(place)])?;
+    let stored = tx.all_rows(text, &[ValueRef::Int(place)])?;
     let mut places = Vec::with_capacity(alloc, stored.len())?;
     for row in &stored {
         places.push(row.get::<u32>(0)? as usize)?;
@@ -145,8 +196,8 @@ fn read_places<S: Alter>(
 }
 
 /// Puts in the rows of a definition, which stands at a place.
-pub(crate) fn write_def<S: Alter>(
-    tx: &mut Transaction<'_, S>,
+pub(crate) fn write_def<S: Store>(
+    tx: &mut S,
     place: u32,
     def: &TableDef,
 ) -> Result<(), StoreFault> {
@@ -157,11 +208,7 @@ pub(crate) fn write_def<S: Alter>(
     Ok(())
 }
 
-fn write_table<S: Alter>(
-    tx: &mut Transaction<'_, S>,
-    place: u32,
-    def: &TableDef,
-) -> Result<(), StoreFault> {
+fn write_table<S: Store>(tx: &mut S, place: u32, def: &TableDef) -> Result<(), StoreFault> {
     let (parent, cascades) = match &def.foreign_key {
         None => (ValueRef::Null, false),
         Some(foreign) => (foreign.parent.0.to_sql(), foreign.cascade),
@@ -176,8 +223,8 @@ fn write_table<S: Alter>(
     give(tx, text, &values)
 }
 
-fn write_column<S: Alter>(
-    tx: &mut Transaction<'_, S>,
+fn write_column<S: Store>(
+    tx: &mut S,
     place: u32,
     def: &TableDef,
     at: usize,

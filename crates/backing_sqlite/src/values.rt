@@ -24,14 +24,6 @@ pub(crate) struct LogPlace {
     pub number: usize,
 }
 
-/// A number as SQLite keeps it.
-pub(crate) fn whole(number: u64) -> Result<i64, StoreFault> {
-    match i64::try_from(number) {
-        Ok(number) => Ok(number),
-        Err(_) => Err(StoreFault::Failed),
-    }
-}
-
 /// The value as SQLite keeps it.
 fn lent(value: &Value) -> ValueRef<'_> {
     match value {
@@ -48,10 +40,24 @@ pub(crate) fn lent_all<'a>(
     values: &'a [Value],
 ) -> Result<Vec<ValueRef<'a>>, StoreFault> {
     let mut out = Vec::with_capacity(alloc, values.len())?;
-    for value in values {
-        out.push(lent(value))?;
+    match put_all(&mut out, values) {
+        Ok(()) => Ok(out),
+        Err(fault) => Err(fault),
     }
-    Ok(out)
+}
+
+fn put_all<'a>(out: &mut Vec<ValueRef<'a>>, values: &'a [Value]) -> Result<(), StoreFault> {
+    for value in values {
+        put(out, lent(value))?;
+    }
+    Ok(())
+}
+
+fn put<'a>(out: &mut Vec<ValueRef<'a>>, value: ValueRef<'a>) -> Result<(), StoreFault> {
+    match out.push(value) {
+        Ok(()) => Ok(()),
+        Err(_) => Err(StoreFault::Memory),
+    }
 }
 
 /// The values of an update: those of the new row that aren't of the key, and then the key.
@@ -62,15 +68,24 @@ pub(crate) fn lent_update<'a>(
     key: &'a Key,
 ) -> Result<Vec<ValueRef<'a>>, StoreFault> {
     let mut out = Vec::with_capacity(alloc, row.values().len())?;
+    match put_update(&mut out, def, row, key) {
+        Ok(()) => Ok(out),
+        Err(fault) => Err(fault),
+    }
+}
+
+fn put_update<'a>(
+    out: &mut Vec<ValueRef<'a>>,
+    def: &TableDef,
+    row: &'a Row,
+    key: &'a Key,
+) -> Result<(), StoreFault> {
     for (place, value) in row.values().iter().enumerate() {
         if !def.primary_key.as_slice().contains(&place) {
-            out.push(lent(value))?;
+            put(out, lent(value))?;
         }
     }
-    for value in key.values() {
-        out.push(lent(value))?;
-    }
-    Ok(out)
+    put_all(out, key.values())
 }
 
 /// The values of an entry of the log: position, number, whether there was a row before, and that row, or of a new row
@@ -82,19 +97,44 @@ pub(crate) fn lent_entry<'a>(
     was: bool,
     row: &'a Row,
 ) -> Result<Vec<ValueRef<'a>>, StoreFault> {
-    let position = whole(at.position)?;
-    let number = whole(at.number as u64)?;
-    let mut out = Vec::with_capacity(alloc, row.values().len())?;
+    match (i64::try_from(at.position), i64::try_from(at.number)) {
+        (Ok(position), Ok(number)) => {
+            let mut out = Vec::with_capacity(alloc, row.values().len())?;
+            match put_entry(&mut out, def, position, number, was, row) {
+                Ok(()) => Ok(out),
+                Err(fault) => Err(fault),
+            }
+        }
+        _ => Err(StoreFault::Failed),
+    }
+}
+
+fn put_entry<'a>(
+    out: &mut Vec<ValueRef<'a>>,
+    def: &TableDef,
+    position: i64,
+    number: i64,
+    was: bool,
+    row: &'a Row,
+) -> Result<(), StoreFault> {
     out.extend_from_slice(&[
         ValueRef::Int(position),
         ValueRef::Int(number),
         ValueRef::Int(i64::from(was)),
     ])?;
     for (place, value) in row.values().iter().enumerate() {
-        let is_told = was || def.primary_key.as_slice().contains(&place);
-        out.push(if is_told { lent(value) } else { ValueRef::Null })?;
+        put(out, entered(def, was, place, value))?;
     }
-    Ok(out)
+    Ok(())
+}
+
+// The value that an entry has at a place.
+fn entered<'a>(def: &TableDef, was: bool, place: usize, value: &'a Value) -> ValueRef<'a> {
+    if was || def.primary_key.as_slice().contains(&place) {
+        lent(value)
+    } else {
+        ValueRef::Null
+    }
 }
 
 /// The row of these columns, in their order. It fails where a value isn't one that its column holds.
@@ -114,11 +154,37 @@ pub(crate) fn row_behind(
     others: usize,
 ) -> Result<Row, StoreFault> {
     let mut values = Vec::with_capacity(alloc, columns.len())?;
-    for (place, column) in columns.iter().enumerate() {
-        let value = value_at(alloc, column, stored, others.saturating_add(place))?;
-        values.push(value)?;
+    match put_row(alloc, columns, stored, others, &mut values) {
+        Ok(()) => Ok(Row::from_vec(values)),
+        Err(fault) => Err(fault),
     }
-    Ok(Row::from_vec(values))
+}
+
+fn put_row(
+    alloc: Global,
+    columns: &[Column],
+    stored: &sqlite::Row,
+    others: usize,
+    out: &mut Vec<Value>,
+) -> Result<(), StoreFault> {
+    for (place, column) in columns.iter().enumerate() {
+        put_value(
+            out,
+            value_at(alloc, column, stored, others.saturating_add(place)),
+        )?;
+    }
+    Ok(())
+}
+
+// Puts a value that was read behind the others.
+fn put_value(out: &mut Vec<Value>, read: Result<Value, StoreFault>) -> Result<(), StoreFault> {
+    match read {
+        Ok(value) => match out.push(value) {
+            Ok(()) => Ok(()),
+            Err(_) => Err(StoreFault::Memory),
+        },
+        Err(fault) => Err(fault),
+    }
 }
 
 /// The key of the columns at these places. It fails where a value isn't one that its column holds.
@@ -127,13 +193,23 @@ pub(crate) fn key_of(
     def: &TableDef,
     stored: &sqlite::Row,
 ) -> Result<Key, StoreFault> {
-    let places = def.primary_key.as_slice();
-    let mut values = Vec::with_capacity(alloc, places.len())?;
-    for (at, place) in places.iter().enumerate() {
-        let value = value_in(alloc, def, *place, stored, at)?;
-        values.push(value)?;
+    let mut values = Vec::with_capacity(alloc, def.primary_key.len())?;
+    match put_key(alloc, def, stored, &mut values) {
+        Ok(()) => Ok(Key::from_vec(values)),
+        Err(fault) => Err(fault),
     }
-    Ok(Key::from_vec(values))
+}
+
+fn put_key(
+    alloc: Global,
+    def: &TableDef,
+    stored: &sqlite::Row,
+    out: &mut Vec<Value>,
+) -> Result<(), StoreFault> {
+    for (at, place) in def.primary_key.as_slice().iter().enumerate() {
+        put_value(out, value_in(alloc, def, *place, stored, at))?;
+    }
+    Ok(())
 }
 
 // The value of the column at a place of the table.
@@ -163,13 +239,24 @@ fn value_at(
 }
 
 fn value_of(alloc: Global, column: &Column, stored: ValueRef<'_>) -> Result<Value, StoreFault> {
-    let value = match stored {
-        ValueRef::Null => Value::Null,
-        ValueRef::Int(number) => whole_of(column.ty, number)?,
-        ValueRef::Text(bytes) => text_value(alloc, bytes)?,
-        ValueRef::Blob(bytes) => text_value(alloc, bytes)?,
-        ValueRef::Real(_) => return Err(StoreFault::Failed),
-    };
+    match value_read(alloc, column.ty, stored) {
+        Ok(value) => fitting(value, column),
+        Err(fault) => Err(fault),
+    }
+}
+
+fn value_read(alloc: Global, ty: Ty, stored: ValueRef<'_>) -> Result<Value, StoreFault> {
+    match stored {
+        ValueRef::Null => Ok(Value::Null),
+        ValueRef::Int(number) => whole_of(ty, number),
+        ValueRef::Text(bytes) => text_value(alloc, bytes),
+        ValueRef::Blob(bytes) => text_value(alloc, bytes),
+        ValueRef::Real(_) => Err(StoreFault::Failed),
+    }
+}
+
+// The value, where the column may have it.
+fn fitting(value: Value, column: &Column) -> Result<Value, StoreFault> {
     match fits(&value, column) {
         Ok(()) => Ok(value),
         Err(_) => Err(StoreFault::Failed),

@@ -33,7 +33,7 @@ use Rattle.stored_tier.proofs.BankLaws.{behind, call_behind, told_behind}
 use Rattle.stored_tier.proofs.HiddenRows.{hidden_as, hides_later, hides_then}
 use Rattle.stored_tier.proofs.LongerLaws.{read_longer}
 use Rattle.stored_tier.proofs.NamingLaws.{cached_seen}
-use Rattle.session_engine.proofs.OthersLaws.{only_reads, schema_told}
+use Rattle.stored_tier.proofs.OthersLaws.{only_reads, schema_told}
 use Rattle.stored_tier.proofs.StandingLaws.{performed_behind, performed_here}
 
 -- whether a name is one of a cached table

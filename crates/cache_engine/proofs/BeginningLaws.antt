@@ -31,7 +31,7 @@ use Rattle.stored_tier.specs.Stored.{AreKept, IsSound, IsStoredAs, KeepsTime, ar
 use Rattle.group_catalog.specs.Catalogs.{is_plain}
 use Rattle.stored_tier.specs.Moments.{refreshed_in, set_seen}
 use Rattle.stored_tier.proofs.BankLaws.{told_behind}
-use Rattle.session_engine.proofs.OthersLaws.{came_by, schema_told}
+use Rattle.stored_tier.proofs.OthersLaws.{came_by, schema_told}
 use Rattle.stored_tier.proofs.StandingLaws.{slots_kept}
 use Rattle.stored_tier.specs.declared.clock.Pace.{Pace}
 

@@ -23,7 +23,7 @@ use Rattle.stored_tier.specs.declared.tier.Tier.{Tier as Stored}
 use Rattle.cache_engine.specs.Due.{IsDueCaused, stop_faults}
 use Rattle.cache_engine.specs.DueItems.{DoesItem, Footing, due_of, note_of, notes_since}
 use Rattle.tier_journal.specs.declared.journal.TierJournal.{TierJournal}
-use Rattle.kept_journal.specs.Keeping.{is_broken}
+use Rattle.tier_journal.specs.KeptOver.{is_broken}
 use Rattle.stored_tier.specs.Performing.{IsCausedOver, IsStopCausedOver, KeepsSlots, PerformsOver, StandsFor}
 use Rattle.stored_tier.specs.Refreshing.{has_moment}
 use Rattle.stored_tier.specs.Sites.{IsAt}

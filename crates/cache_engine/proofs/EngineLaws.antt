@@ -17,7 +17,7 @@ use Rattle.stored_tier.specs.declared.tier.Tier.{Tier as Stored}
 use Rattle.outside.specs.Holding.{Held}
 use Rattle.propagators.specs.Certainty.{KeepsCertain}
 use Rattle.tier_journal.specs.declared.journal.TierJournal.{TierJournal}
-use Rattle.kept_journal.specs.Keeping.{is_broken}
+use Rattle.tier_journal.specs.KeptOver.{is_broken}
 use Rattle.cache_tier.specs.TierStates.{Session}
 use Rattle.stored_tier.specs.Performing.{Executes, ExecutesUnwritten, PerformsIn, PerformsInOver, PerformsOver, StandsFor, StaysWritten, reply_of}
 use Rattle.stored_tier.proofs.OverLaws.{over_so}

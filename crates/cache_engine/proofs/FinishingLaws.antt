@@ -5,7 +5,7 @@ use Rattle.outside.specs.Sites.{SiteState}
 use Rattle.cache_tier.specs.JournalSteps.{Flushes}
 use Rattle.cache_tier.specs.declared.reply.Reply.{Reply}
 use Rattle.tier_journal.specs.declared.journal.TierJournal.{TierJournal}
-use Rattle.kept_journal.specs.Keeping.{DiskIsCaused, WritesOver}
+use Rattle.tier_journal.specs.KeptOver.{DiskIsCaused, WritesOver}
 use Rattle.stored_tier.proofs.OverLaws.{at_written}
 use Rattle.cache_engine.specs.Finishing.{FinishesOver}
 

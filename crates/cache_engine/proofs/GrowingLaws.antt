@@ -29,7 +29,8 @@ use Rattle.group_store.specs.declared.directory.Home.{Home}
 use Rattle.cache_tier.specs.Groups.{Group, covers, is_asynchronous, is_table_of}
 use Rattle.cache_tier.specs.Defining.{with_tables}
 use Rattle.stored_tier.specs.declared.tier.Tier.{Tier as Stored}
-use Rattle.cache_engine.specs.Growing.{BeginsWith, Learns, MayLearn}
+use Rattle.cache_engine.specs.Growing.{Learns, MayLearn}
+use Rattle.tier_journal.specs.Ways.{HasBecome}
 use Rattle.stored_tier.specs.Naming.{AreNamed, HasNoHome}
 use Rattle.stored_tier.specs.Lists.{AreHiding}
 use Rattle.slot_rows.specs.SlotKeys.{RowsHeld}
@@ -299,17 +300,17 @@ pub learns : (t : Stored) (schema names : List TableDef) (homes : List (Option H
 learns t schema names homes may = record { front = may.front; kept = refl; rows = rows_learned t schema names homes may }
 
 -- one definition more at the front
-pub begins_more : (a b : TableDef) (front whole : List TableDef) → a ≡ b → BeginsWith front whole → BeginsWith (a ∷ front) (b ∷ whole)
+pub begins_more : (a b : TableDef) (front whole : List TableDef) → a ≡ b → HasBecome front whole → HasBecome (a ∷ front) (b ∷ whole)
 begins_more a b front whole same rest = record { more = rest.more; is = ap (λ d. d ∷ whole) (sym same) ∙ ap (λ ds. a ∷ ds) rest.is }
 
-pub begins_none : (front whole : List TableDef) → length front ≡ 0 → BeginsWith front whole
+pub begins_none : (front whole : List TableDef) → length front ≡ 0 → HasBecome front whole
 begins_none [] whole none = record { more = whole; is = refl }
 begins_none (def ∷ front) whole none = absurd (omega (arith, none))
 
 pub may_learn : (t : Stored) (stores : List Kept) (known schema whole names : List TableDef) (homes : List (Option Home)) (first end : ℕ) → stores ≡ t.stores.items → known ≡ t.schema → whole ≡ schema → length t.schema ≡ first → length schema ≡ end
-    → BeginsWith known whole → AreNamed (groups_in t.catalog) stores whole names homes → HasNoHome homes first end → MayLearn t schema names homes
+    → HasBecome known whole → AreNamed (groups_in t.catalog) stores whole names homes → HasNoHome homes first end → MayLearn t schema names homes
 may_learn t stores known schema whole names homes first end one two three low high front named apart = record {
-  front = subst (λ ds. BeginsWith ds schema) two (subst (λ ds. BeginsWith known ds) three front);
+  front = subst (λ ds. HasBecome ds schema) two (subst (λ ds. HasBecome known ds) three front);
   named = subst (λ ss. AreNamed (groups_in t.catalog) ss schema names homes) one (subst (λ ds. AreNamed (groups_in t.catalog) stores ds names homes) three named);
   apart = subst (λ n. HasNoHome homes n (length schema)) (sym low) (subst (λ n. HasNoHome homes first n) (sym high) apart);
 }

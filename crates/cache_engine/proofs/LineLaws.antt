@@ -36,7 +36,7 @@ use Rattle.outside.specs.Holding.{Held}
 use Rattle.propagators.specs.Certainty.{KeepsCertain}
 use Rattle.propagators.proofs.CertainLaws.{same_certain}
 use Rattle.tier_journal.specs.declared.journal.TierJournal.{TierJournal}
-use Rattle.kept_journal.specs.Keeping.{is_broken}
+use Rattle.tier_journal.specs.KeptOver.{is_broken}
 use Rattle.stored_tier.proofs.OverLaws.{over_here, over_so}
 use Rattle.stored_tier.specs.Performing.{ClosesSession, Executes, OpensSession, Performs, PerformsIn, PerformsOver, StaysWritten, reply_of}
 use Rattle.cache_engine.specs.Serving.{AsksAndDoes, DoesAdmitted, IsAdmitted, WorksAndAnswers}
@@ -45,7 +45,7 @@ use Rattle.stored_tier.specs.Stored.{IsStoredAs}
 use Rattle.cache_engine.proofs.DueLaws.{KeepsWho, asked_keeps, due_keeps, labels_of, still_unshared, who_on}
 use Rattle.cache_engine.proofs.EngineLaws.{ended, led, led_none, left_stored}
 use Rattle.session_engine.specs.Doubting.{EndsInOver, EndsOver, IsLeft, LeadsOver}
-use Rattle.cache_engine.specs.Growing.{BeginsWith}
+use Rattle.tier_journal.specs.Ways.{HasBecome}
 use Rattle.cache_engine.proofs.StillLaws.{asked_journal, console_journal, over_grown, over_still, quiet_still}
 use Rattle.session_engine.specs.declared.doubt.Doubt.{Doubt}
 use Rattle.cache_engine.proofs.WantLaws.{told_as}
@@ -130,7 +130,7 @@ module _ {D : Type 0} (state : D → SiteState) (possible : D → ℕ → Held �
       let it = p o.session o.has w at stands unshared keeps in
       record { world = it.world; at = it.at; is = λ free. statement_does label st o.session w it.world (reply_of result) o.is it.is; left = it.left; keeps = it.keeps }
 
-  pub console_performed : (old new : Stored) (k : Option TierJournal) (d d' : D) (request : ConsoleRequest) (reply : Reply) → KeepsCertain state possible d d' → BeginsWith old.schema new.schema
+  pub console_performed : (old new : Stored) (k : Option TierJournal) (d d' : D) (request : ConsoleRequest) (reply : Reply) → KeepsCertain state possible d d' → HasBecome old.schema new.schema
       → Performs old new (state d) (state d') (λ w w'. Tries (DoesConsole request) w w' reply) → PerformsOver state possible old new k k d d' (Some reply) (λ w w'. DoesAdmitted (says.Console request) w w' reply)
   console_performed old new k d d' request reply certain grows p =
       over_so state possible old new k k d d' (Some reply) (λ w w'. Tries (DoesConsole request) w w' reply) (λ w w'. DoesAdmitted (says.Console request) w w' reply)
@@ -191,7 +191,7 @@ early_admits base (says.Clock ms) t e = tt
 -- THE QUESTION FOR THE SCHEMA, AND THE STATEMENT
 
 module _ {D : Type 0} (state : D → SiteState) (possible : D → ℕ → Held → Type 0) where
-  pub asked_end : (old new : Stored) (doubt : Option Doubt) (k : Option TierJournal) (d d' : D) (l : Line) (reply : Reply) → doubt ≡ None → KeepsCertain state possible d d' → BeginsWith old.schema new.schema
+  pub asked_end : (old new : Stored) (doubt : Option Doubt) (k : Option TierJournal) (d d' : D) (l : Line) (reply : Reply) → doubt ≡ None → KeepsCertain state possible d d' → HasBecome old.schema new.schema
       → Performs old new (state d) (state d') (λ w w'. AsksSchema l w w' (Some reply)) → EndsOver state possible old new doubt k k d d' (Some reply) (λ w w'. AsksAndDoes l w w' reply)
   asked_end old new doubt k d d' l reply none certain grows p =
       ended state possible old new doubt k k d d' (Some reply) (λ w w'. AsksAndDoes l w w' reply) none
@@ -199,7 +199,7 @@ module _ {D : Type 0} (state : D → SiteState) (possible : D → ℕ → Held �
       (λ w w' stands asks free. inl (record { mid = w'; stop = Some reply; first = asks; next = (refl, refl) }))
       (over_grown state possible old new k d d' (Some reply) (λ w w'. AsksSchema l w w' (Some reply)) certain grows (λ w w' asks. asked_journal l w w' (Some reply) asks) p))
 
-  pub asked_on : (old mid new : Stored) (doubt : Option Doubt) (k k' : Option TierJournal) (before between behind : D) (l : Line) (reply : Reply) → KeepsCertain state possible before between → BeginsWith old.schema mid.schema
+  pub asked_on : (old mid new : Stored) (doubt : Option Doubt) (k k' : Option TierJournal) (before between behind : D) (l : Line) (reply : Reply) → KeepsCertain state possible before between → HasBecome old.schema mid.schema
       → Performs old mid (state before) (state between) (λ w w'. AsksSchema l w w' None) → EndsOver state possible mid new doubt k k' between behind (Some reply) (λ w w'. DoesAdmitted l w w' reply)
       → EndsOver state possible old new doubt k k' before behind (Some reply) (λ w w'. AsksAndDoes l w w' reply)
   asked_on old mid new doubt k k' before between behind l reply certain grows p q =
@@ -217,7 +217,7 @@ module _ {D : Type 0} (state : D → SiteState) (possible : D → ℕ → Held �
       (over_grown state possible old mid k before between None (λ w w'. AsksSchema l w w' None) certain grows (λ w w' asks. asked_journal l w w' None asks) p))
       q
 
-  pub asked_refused : (old mid new : Stored) (doubt : Option Doubt) (k k' : Option TierJournal) (before between behind : D) (l : Line) (r : Refused) (reply : Reply) → reply ≡ reply_to r → KeepsCertain state possible before between → BeginsWith old.schema mid.schema
+  pub asked_refused : (old mid new : Stored) (doubt : Option Doubt) (k k' : Option TierJournal) (before between behind : D) (l : Line) (r : Refused) (reply : Reply) → reply ≡ reply_to r → KeepsCertain state possible before between → HasBecome old.schema mid.schema
       → Performs old mid (state before) (state between) (λ w w'. AsksSchema l w w' None) → EndsOver state possible mid new doubt k k' between behind (Some (reply_of (Err r))) (λ w w'. DoesAdmitted l w w' (reply_of (Err r)))
       → EndsOver state possible old new doubt k k' before behind (Some reply) (λ w w'. AsksAndDoes l w w' reply)
   asked_refused old mid new doubt k k' before between behind l r reply e certain grows p q =

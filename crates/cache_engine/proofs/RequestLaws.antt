@@ -7,7 +7,7 @@ use Rattle.row_types.specs.declared.rule.Refused.{Refused}
 use Rattle.row_types.specs.declared.rule.Refused.TheVariants as refused
 use Rattle.outside.specs.Holding.{Held}
 use Rattle.tier_journal.specs.declared.journal.TierJournal.{TierJournal}
-use Rattle.kept_journal.specs.Keeping.{KeepsOver, is_broken}
+use Rattle.tier_journal.specs.KeptOver.{KeepsOver, is_broken}
 use Rattle.cache_tier.specs.Worlds.{IsUnshared, World}
 use Rattle.cache_engine.proofs.JournalKept.{led_kept}
 use Rattle.sql_subset.specs.Lines as line

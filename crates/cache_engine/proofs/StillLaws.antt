@@ -9,8 +9,8 @@ use Rattle.propagators.specs.Certainty.{KeepsCertain}
 use Rattle.tier_journal.specs.declared.journal.TierJournal.{TierJournal}
 use Rattle.tier_journal.specs.Keeping.{Keeps}
 use Rattle.tier_journal.proofs.KeepLaws.{kept_grown}
-use Rattle.kept_journal.specs.Keeping.{KeepsOver}
-use Rattle.kept_journal.specs.Drafts.{StaysKept}
+use Rattle.tier_journal.specs.KeptOver.{KeepsOver}
+use Rattle.tier_journal.specs.Drafts.{StaysKept}
 use Rattle.sql_subset.specs.declared.request.ConsoleRequest.{ConsoleRequest}
 use Rattle.sql_subset.specs.declared.request.ConsoleRequest.TheVariants as console
 use Rattle.sql_subset.specs.declared.request.Line.{Line}
@@ -29,7 +29,7 @@ use Rattle.stored_tier.proofs.OverLaws.{keeps_called, over_quiet}
 use Rattle.stored_tier.proofs.WayLaws.{at_history_of, grown_leaves}
 use Rattle.session_engine.specs.Doubting.{Leads, LeadsOver}
 use Rattle.session_engine.specs.declared.doubt.Doubt as kept
-use Rattle.cache_engine.specs.Growing.{BeginsWith}
+use Rattle.tier_journal.specs.Ways.{HasBecome}
 
 -- the journal and the schema stay
 
@@ -116,7 +116,7 @@ console_journal request w w' reply (inr p) = ap (λ (x : World). x.journal) p.0
 
 module _ {D : Type 0} (state : D → SiteState) (possible : D → ℕ → Held → Type 0) where
   -- under a schema that has grown
-  keeps_grown : (k : Option TierJournal) (d d' : D) (w w' : World) → KeepsOver state possible d k w → KeepsCertain state possible d d' → w'.journal ≡ w.journal → BeginsWith w.tier.schema w'.tier.schema → IsAt (state d') w' → KeepsOver state possible d' k w'
+  keeps_grown : (k : Option TierJournal) (d d' : D) (w w' : World) → KeepsOver state possible d k w → KeepsCertain state possible d d' → w'.journal ≡ w.journal → HasBecome w.tier.schema w'.tier.schema → IsAt (state d') w' → KeepsOver state possible d' k w'
   keeps_grown None d d' w w' keeps certain journal grows at = ap (λ j. j.kept) journal ∙ keeps
   keeps_grown (Some t) d d' w w' keeps certain journal grows at =
       let c = certain keeps.there keeps.certain in
@@ -134,12 +134,12 @@ module _ {D : Type 0} (state : D → SiteState) (possible : D → ℕ → Held �
       }
 
   -- a stage or a part that writes nothing, where the schema may grow
-  pub over_grown : (old new : Stored) (k : Option TierJournal) (d d' : D) (stop : Option Reply) (does : World → World → Type 0) → KeepsCertain state possible d d' → BeginsWith old.schema new.schema → ((w w' : World) → does w w' → w'.journal ≡ w.journal) → Performs old new (state d) (state d') does
+  pub over_grown : (old new : Stored) (k : Option TierJournal) (d d' : D) (stop : Option Reply) (does : World → World → Type 0) → KeepsCertain state possible d d' → HasBecome old.schema new.schema → ((w w' : World) → does w w' → w'.journal ≡ w.journal) → Performs old new (state d) (state d') does
       → PerformsOver state possible old new k k d d' stop does
   over_grown old new k d d' stop does certain grows still performs w at stands apart keeps =
       let it = performs w at stands apart in
-      let from = subst (λ s. BeginsWith s new.schema) (sym stands.stored.schema) grows in
-      let to = subst (λ s. BeginsWith w.tier.schema s) (sym it.stands.stored.schema) from in
+      let from = subst (λ s. HasBecome s new.schema) (sym stands.stored.schema) grows in
+      let to = subst (λ s. HasBecome w.tier.schema s) (sym it.stands.stored.schema) from in
       record {
         world = it.world;
         at = it.at;

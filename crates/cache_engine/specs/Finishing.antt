@@ -9,7 +9,7 @@ use Rattle.cache_tier.specs.Worlds.{World}
 use Rattle.cache_tier.specs.declared.reply.Reply.{Reply}
 use Rattle.stored_tier.specs.Sites.{IsAt}
 use Rattle.tier_journal.specs.declared.journal.TierJournal.{TierJournal}
-use Rattle.kept_journal.specs.Keeping.{KeepsOver, is_broken, over_disk}
+use Rattle.tier_journal.specs.KeptOver.{KeepsOver, is_broken, over_disk}
 
 -- The tail is flushed in this world, or a call of the disk failed. Nothing but the journal, the disk's count and the
 -- moment changes. Unless it failed, the journal is kept over the disk still, and nothing of it waits.

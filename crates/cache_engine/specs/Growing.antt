@@ -13,23 +13,19 @@ use Rattle.cache_tier.specs.ConsoleSteps.{names_of_line}
 use Rattle.cache_tier.specs.Groups.{is_table_of}
 use Rattle.cache_tier.specs.Defining.{with_tables}
 use Rattle.stored_tier.specs.declared.tier.Tier.{Tier as Stored}
+use Rattle.tier_journal.specs.Ways.{HasBecome}
 use Rattle.stored_tier.specs.Naming.{AreNamed, HasNoHome}
 use Rattle.stored_tier.specs.Stored.{rows_of}
 
--- a list of definitions begins with another
-pub record BeginsWith (front whole : List TableDef) : Type 0 where
-  pub more : List TableDef
-  pub is : whole ≡ front ++ more
-
 -- The names and homes are those of a schema that begins with the known one, and no table that is new has a home.
 pub record MayLearn (t : Stored) (schema names : List TableDef) (homes : List (Option Home)) : Type 0 where
-  pub front : BeginsWith t.schema schema
+  pub front : HasBecome t.schema schema
   pub named : AreNamed (groups_in t.catalog) t.stores.items schema names homes
   pub apart : HasNoHome homes (length t.schema) (length schema)
 
 -- the tier knows this schema, and shows the tables that are new without rows
 pub record Learns (old new : Stored) (schema : List TableDef) : Type 0 where
-  pub front : BeginsWith old.schema schema
+  pub front : HasBecome old.schema schema
   pub kept : new ≡ record old {
     schema = schema;
     stale = false;

@@ -12,7 +12,7 @@ use Rattle.cache_tier.specs.Worlds.{World, faulty}
 use Rattle.stored_tier.specs.Performing.{KeepsSlots}
 use Rattle.outside.specs.Sites.{SiteState}
 use Rattle.tier_journal.specs.declared.journal.TierJournal.{TierJournal}
-use Rattle.kept_journal.specs.Keeping.{is_broken}
+use Rattle.tier_journal.specs.KeptOver.{is_broken}
 
 -- the line is longer than a line may be
 abbrev pub is_long : List ℕ → Bool

@@ -2,13 +2,13 @@
 
 ghost use Rattle.cache_engine.specs.Engines.{IsInOrder};
 ghost use Rattle.cache_engine.specs.Finishing.{FinishesOver};
-ghost use Rattle.kept_journal.specs.Keeping.{DiskIsCaused, stop_of};
+ghost use Rattle.tier_journal.specs.KeptOver.{DiskIsCaused, stop_of};
 
 use crate::engine::Engine;
 use cache_tier::reply::Reply;
-use kept_journal::flush_tail;
 use outside::Site;
 use std::alloc::Global;
+use tier_journal::flush_tail;
 
 /// Flushes what waits in the journal's tail, where a journal is kept, at the end of the input. It takes no memory, and
 /// a commit may be in doubt.

@@ -1,7 +1,8 @@
 //! A schema that the tier learns.
 
 ghost use Rattle.std.specs.Prelude.{IfOk, IsTrue};
-ghost use Rattle.cache_engine.specs.Growing.{BeginsWith, Learns, MayLearn};
+ghost use Rattle.cache_engine.specs.Growing.{Learns, MayLearn};
+ghost use Rattle.tier_journal.specs.Ways.{HasBecome};
 ghost use Rattle.stored_tier.specs.Stored.{IsSound};
 
 use group_store::Directory;
@@ -65,7 +66,7 @@ pub(crate) fn learn(
 
 // Whether the definitions begin with these.
 fn begins_with(front: &[TableDef], whole: &[TableDef]) -> bool
-    ensures { IsTrue result → BeginsWith front.now whole.now }
+    ensures { IsTrue result → HasBecome front.now whole.now }
 {
     match (front.split_first(), whole.split_first()) {
         (None, _) => true,

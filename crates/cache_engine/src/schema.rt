@@ -6,7 +6,8 @@ ghost use Rattle.resolution.specs.Writes.{table_of};
 ghost use Rattle.sql_subset.specs.declared.request.Line.TheVariants as says;
 ghost use Rattle.cache_tier.specs.ConsoleSteps.{names_of, names_of_line, AsksSchema};
 ghost use Rattle.cache_tier.specs.Definitions.{names_in};
-ghost use Rattle.cache_engine.specs.Growing.{BeginsWith, has_to_ask, misses};
+ghost use Rattle.cache_engine.specs.Growing.{has_to_ask, misses};
+ghost use Rattle.tier_journal.specs.Ways.{HasBecome};
 ghost use Rattle.stored_tier.specs.Performing.{IsStopCaused, Performs, stop_of};
 ghost use Rattle.propagators.specs.Certainty.{KeepsCertain};
 ghost use Rattle.stored_tier.specs.Stored.{IsSound};
@@ -39,7 +40,7 @@ pub fn ask_schema<P: Site>(
         (P.Disk.state site.new)
         (λ w w'. AsksSchema line.now w w' (stop_of result)) }
     ensures sound { IsSound tier.new }
-    ensures grown { BeginsWith tier.old.schema tier.new.schema }
+    ensures grown { HasBecome tier.old.schema tier.new.schema }
     ensures certain { KeepsCertain P.Disk.state P.Disk.possible site.old site.new }
     ensures disk { (P.Disk.state site.new).disk_faults ≡ (P.Disk.state site.old).disk_faults }
     ensures cause { IsStopCaused

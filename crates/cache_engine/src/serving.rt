@@ -4,7 +4,7 @@ ghost use Rattle.std.specs.Prelude.{◌≡◌, ◌++◌, ◌∷◌, [], IfOk};
 ghost use Rattle.cache_tier.specs.ConsoleSteps.{CreatesTable, DoesConsole};
 ghost use Rattle.cache_tier.specs.Worlds.{Tries};
 ghost use Rattle.stored_tier.specs.Performing.{IsCaused, Performs, reply_of};
-ghost use Rattle.cache_engine.specs.Growing.{BeginsWith};
+ghost use Rattle.tier_journal.specs.Ways.{HasBecome};
 ghost use Rattle.propagators.specs.Certainty.{KeepsCertain};
 ghost use Rattle.stored_tier.specs.Stored.{IsSound};
 
@@ -36,7 +36,7 @@ pub fn serve_console<P: Site>(
         (P.Disk.state site.new)
         (λ w w'. Tries (DoesConsole request.now) w w' (reply_of result)) }
     ensures sound { IsSound tier.new }
-    ensures grown { BeginsWith tier.old.schema tier.new.schema }
+    ensures grown { HasBecome tier.old.schema tier.new.schema }
     ensures certain { KeepsCertain P.Disk.state P.Disk.possible site.old site.new }
     ensures disk { (P.Disk.state site.new).disk_faults ≡ (P.Disk.state site.old).disk_faults }
     ensures cause { IsCaused
@@ -69,7 +69,7 @@ fn create_table<P: Site>(
         (P.Disk.state site.new)
         (λ w w'. Tries (CreatesTable declaration.now) w w' (reply_of result)) }
     ensures sound { IsSound tier.new }
-    ensures grown { BeginsWith tier.old.schema tier.new.schema }
+    ensures grown { HasBecome tier.old.schema tier.new.schema }
     ensures certain { KeepsCertain P.Disk.state P.Disk.possible site.old site.new }
     ensures disk { (P.Disk.state site.new).disk_faults ≡ (P.Disk.state site.old).disk_faults }
     ensures cause { IsCaused

@@ -7,7 +7,8 @@ use Rattle.outside.specs.declared.fault.BankError.{BankError}
 use Rattle.outside.specs.Others.{Around}
 use Rattle.cache_tier.specs.declared.reply.Reply.{Reply}
 use Rattle.cache_tier.specs.WayFacts.{IsLed}
-use Rattle.cache_tier.specs.GoesOn.{IsLonger, LeadsTo}
+use Rattle.cache_tier.specs.GoesOn.{LeadsTo}
+use Rattle.outside.specs.Calls.{Lengthens}
 use Rattle.cache_tier.specs.JournalSteps.{Flushes, FlushesFitting, FlushesKept, FlushesSome, Notes, NotesKept, Records, has_entries, journal_full}
 use Rattle.cache_tier.specs.Journals.{Journal, JournalEntry}
 use Rattle.cache_tier.specs.Reading.{Answers, FollowsAt, Reads, ReadsFirst, StageFollowsAt, TellsPosition}
@@ -24,10 +25,10 @@ nothing_more : (h : List Entry) → h ≡ h ++ []
 nothing_more [] = refl
 nothing_more (x ∷ h) = ap (λ ys. x ∷ ys) (nothing_more h)
 
-pub no_longer : (h : List Entry) → IsLonger h h
+pub no_longer : (h : List Entry) → Lengthens h h
 no_longer h = record { more = []; is = nothing_more h }
 
-pub longer_still : (a b c : List Entry) → IsLonger a b → IsLonger b c → IsLonger a c
+pub longer_still : (a b c : List Entry) → Lengthens a b → Lengthens b c → Lengthens a c
 longer_still a b c p q = record { more = p.more ++ q.more; is = q.is ∙ ap (λ x. x ++ q.more) p.is ∙ append_assoc a p.more q.more }
 
 as_led : (j : Journal) → IsLed j j
@@ -111,19 +112,19 @@ either_leads false p q x = q x
 
 -- calls of the bank
 
-pub around : (w w' : World) (step : List Entry → List Entry → Type 0) → ((old new : List Entry) → step old new → IsLonger old new) → Around w.shared step w.history w'.history → IsLonger w.history w'.history
+pub around : (w w' : World) (step : List Entry → List Entry → Type 0) → ((old new : List Entry) → step old new → Lengthens old new) → Around w.shared step w.history w'.history → Lengthens w.history w'.history
 around w w' step grows a =
     let own = grows (w.history ++ a.before) a.middle a.own in
     record { more = a.before ++ own.more ++ a.behind; is = a.is ∙ ap (λ x. x ++ a.behind) own.is ∙ ap (λ x. x ++ a.behind) (append_assoc w.history a.before own.more) ∙ append_assoc w.history (a.before ++ own.more) a.behind }
 
-pub bank_leads : (w w' : World) (step : List Entry → List Entry → Type 0) → ((old new : List Entry) → step old new → IsLonger old new) → w.tier.next ≤ w'.tier.next → BankCall step w w' → LeadsTo w w'
+pub bank_leads : (w w' : World) (step : List Entry → List Entry → Type 0) → ((old new : List Entry) → step old new → Lengthens old new) → w.tier.next ≤ w'.tier.next → BankCall step w w' → LeadsTo w w'
 bank_leads w w' step grows le c =
     record { history = around w w' step grows c.history; journal = subst (λ j. IsLed w.journal j) (sym c.journal) (as_led w.journal); bank = c.faults; disk = omega (arith, c.disk); moment = c.moment; shared = c.shared; next = le }
 
 pub next_of : (w w' : World) (t : Tier) → w'.tier ≡ t → w.tier.next ≤ t.next → w.tier.next ≤ w'.tier.next
 next_of w w' t e le = subst (λ (x : Tier). w.tier.next ≤ x.next) (sym e) le
 
-position_grows : (result : Result ℕ BankError) (old new : List Entry) → TellsPosition result old new → IsLonger old new
+position_grows : (result : Result ℕ BankError) (old new : List Entry) → TellsPosition result old new → Lengthens old new
 position_grows (Ok n) old new p = record { more = []; is = p.0 }
 position_grows (Err e) old new p = record { more = []; is = p }
 
@@ -146,7 +147,7 @@ reads_first_leads tried next le p w w' stop q =
 
 -- the journal
 
-kept : (w w' : World) → w'.history ≡ w.history → IsLonger w.history w'.history
+kept : (w w' : World) → w'.history ≡ w.history → Lengthens w.history w'.history
 kept w w' e = record { more = []; is = e ∙ nothing_more w.history }
 
 kept_flushes_leads : (entries : List JournalEntry) → StageLeads (FlushesKept entries)

@@ -52,7 +52,8 @@ use Rattle.cache_tier.specs.DropSteps.{DropsAt, DropsGroup, DropsRest, drop_answ
 use Rattle.cache_tier.specs.DueWork.{DueAging, DueDoubt, DueRound, DueSets, DueSetsOf, DueWork, Item, ItemFollows, ThenItem, due_sets, is_round_due}
 use Rattle.cache_tier.specs.DynamicLoads.{Brings, BringsAt, BringsInto, BringsReadOnly, BringsWritethrough, LoadsWanted, joined_tier, state_entries}
 use Rattle.cache_tier.specs.Heeding.{HeedLeads}
-use Rattle.cache_tier.specs.GoesOn.{IsLonger, LeadsTo, RunKeepsJournal, RunLeads, StepKeepsJournal, StepKeepsWay, StepLeads}
+use Rattle.cache_tier.specs.GoesOn.{LeadsTo, RunKeepsJournal, RunLeads, StepKeepsJournal, StepKeepsWay, StepLeads}
+use Rattle.outside.specs.Calls.{Lengthens}
 use Rattle.cache_tier.specs.Groups.{Group, is_explicit, is_read_only, is_writethrough}
 use Rattle.cache_tier.specs.InsertSteps.{Finds, Inserts, insert_answer, insert_fault}
 use Rattle.cache_tier.specs.JournalSteps.{Flushes}
@@ -80,42 +81,42 @@ use Rattle.cache_tier.proofs.LeadLaws.{PartLeads, StageLeads, answers_leads, ban
 
 -- what calls of the bank add
 
-none_more : (old new : List Entry) → new ≡ old ++ [] → IsLonger old new
+none_more : (old new : List Entry) → new ≡ old ++ [] → Lengthens old new
 none_more old new e = record { more = []; is = e }
 
-schema_grows : (r : Result (List TableDef) BankError) (old new : List Entry) → TellsSchema r old new → IsLonger old new
+schema_grows : (r : Result (List TableDef) BankError) (old new : List Entry) → TellsSchema r old new → Lengthens old new
 schema_grows (Ok schema) old new p = none_more old new p.0
 schema_grows (Err e) old new p = none_more old new p
 
-row_grows : (t : TableId) (key : List Value) (r : Result (Option (List Value)) BankError) (old new : List Entry) → TellsRow t key r old new → IsLonger old new
+row_grows : (t : TableId) (key : List Value) (r : Result (Option (List Value)) BankError) (old new : List Entry) → TellsRow t key r old new → Lengthens old new
 row_grows t key (Ok row) old new p = none_more old new p.0
 row_grows t key (Err e) old new p = none_more old new p
 
-defines_grows : (def : TableDef) (r : Result (Unit {0}) BankError) (old new : List Entry) → Defines def r old new → IsLonger old new
+defines_grows : (def : TableDef) (r : Result (Unit {0}) BankError) (old new : List Entry) → Defines def r old new → Lengthens old new
 defines_grows def (Ok done) old new p = record { more = _; is = p }
 defines_grows def (Err Memory) old new p = none_more old new p
 defines_grows def (Err Failed) old new (inl p) = none_more old new p
 defines_grows def (Err Failed) old new (inr p) = record { more = _; is = p }
 
-foreign_grows : (changes : List Change) (r : Result Wrote BankError) (old new : List Entry) → WritesForeign changes r old new → IsLonger old new
+foreign_grows : (changes : List Change) (r : Result Wrote BankError) (old new : List Entry) → WritesForeign changes r old new → Lengthens old new
 foreign_grows changes (Ok (Rows n)) old new p = record { more = _; is = p.grows }
 foreign_grows changes (Ok (Broken rule)) old new p = none_more old new p.0
 foreign_grows changes (Err Memory) old new p = none_more old new p
 foreign_grows changes (Err Failed) old new (inl p) = none_more old new p
 foreign_grows changes (Err Failed) old new (inr p) = record { more = _; is = p.1.grows }
 
-passes_grows : (ticket : ℕ) (change : Change) (ops : List Op) (r : Result Wrote BankError) (old new : List Entry) → PassesWrite ticket change ops r old new → IsLonger old new
+passes_grows : (ticket : ℕ) (change : Change) (ops : List Op) (r : Result Wrote BankError) (old new : List Entry) → PassesWrite ticket change ops r old new → Lengthens old new
 passes_grows ticket change ops (Ok (Rows n)) old new p = record { more = _; is = p.grows }
 passes_grows ticket change ops (Ok (Broken rule)) old new p = none_more old new p.0
 passes_grows ticket change ops (Err Memory) old new p = none_more old new p
 passes_grows ticket change ops (Err Failed) old new (inl p) = none_more old new p
 passes_grows ticket change ops (Err Failed) old new (inr p) = record { more = _; is = p.1.grows }
 
-recorded_grows : (ticket : ℕ) (r : Result Bool BankError) (old new : List Entry) → TellsRecorded ticket r old new → IsLonger old new
+recorded_grows : (ticket : ℕ) (r : Result Bool BankError) (old new : List Entry) → TellsRecorded ticket r old new → Lengthens old new
 recorded_grows ticket (Ok stands) old new p = none_more old new p.0
 recorded_grows ticket (Err e) old new p = none_more old new p
 
-once_grows : (x : Sealed) (r : Result Applied BankError) (old new : List Entry) → AppliesOnce x [] r old new → IsLonger old new
+once_grows : (x : Sealed) (r : Result Applied BankError) (old new : List Entry) → AppliesOnce x [] r old new → Lengthens old new
 once_grows x (Ok (Now receipt)) old new p = record { more = _; is = p.0.grows }
 once_grows x (Ok (Before receipt)) old new p = none_more old new p.1
 once_grows x (Ok (NotReady ticket)) old new p = none_more old new p.3

@@ -2,20 +2,15 @@
 -- counts, moments and the next ticket never fall.
 
 use Rattle.std.specs.Prelude.{◌≡◌, ℕ, ◌≤◌, List, ◌++◌, Option}
-use Rattle.table_state.specs.declared.history.Entry.{Entry}
+use Rattle.outside.specs.Calls.{Lengthens}
 use Rattle.cache_tier.specs.declared.reply.Reply.{Reply}
 use Rattle.cache_tier.specs.JournalWays.{beginning_of}
 use Rattle.cache_tier.specs.WayFacts.{IsLed}
 use Rattle.cache_tier.specs.Steps.{Asked, Run, Saying, Step}
 use Rattle.cache_tier.specs.Worlds.{World}
 
--- entries come behind those that there are
-pub record IsLonger (old new : List Entry) : Type 0 where
-  pub more : List Entry
-  pub is : new ≡ old ++ more
-
 pub record LeadsTo (w w' : World) : Type 0 where
-  pub history : IsLonger w.history w'.history
+  pub history : Lengthens w.history w'.history
   pub journal : IsLed w.journal w'.journal
   pub bank : w.bank_faults ≤ w'.bank_faults
   pub disk : w.disk_faults ≤ w'.disk_faults

@@ -14,9 +14,9 @@ use Rattle.cache_tier.specs.Sets.{Choice}
 use Rattle.stored_tier.specs.Stored.{AreKept, IsSound}
 use Rattle.stored_tier.specs.declared.tier.Tier.{Tier as Stored}
 use Rattle.stored_tier.proofs.PutLaws.{Form}
-use Rattle.confirmed_rows.specs.Coming.{HasRowsOf, StoresRowsOf}
-use Rattle.confirmed_rows.proofs.FitLaws.{AllBelow, all_elements}
-use Rattle.confirmed_rows.proofs.RowsOf.{rows_alike, rows_cut, rows_itself, rows_put, rows_through}
+use Rattle.aging_cycles.specs.Coming.{HasRowsOf, StoresRowsOf}
+use Rattle.aging_cycles.proofs.FitLaws.{AllBelow, all_elements}
+use Rattle.aging_cycles.proofs.RowsOf.{rows_alike, rows_cut, rows_itself, rows_put, rows_through}
 use Rattle.changed_sets.specs.Fitting.{ArePatchesFit, DoCutsFit, DoTurnsFit, FitWhere, IsPatchFit}
 use Rattle.changed_sets.specs.Showing.{Patched, ShowsPatches, TurnedBy}
 use Rattle.changed_sets.specs.Turning.{IsTurned, cut_all, cut_by, put_back, put_shown, turned}

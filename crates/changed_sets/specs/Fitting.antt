@@ -4,7 +4,7 @@ use Rattle.std.specs.Prelude.{◌≡◌, ℕ, List, Option, Some, slice_get}
 use Rattle.row_types.specs.declared.value.Value.{Value}
 use Rattle.table_defs.specs.declared.definition.TableDef.{TableDef}
 use Rattle.instances.specs.declared.tree.Tree.{Tree}
-use Rattle.confirmed_rows.specs.Fitting.{AreListedFit}
+use Rattle.aging_cycles.specs.Fitting.{AreListedFit}
 use Rattle.cache_tier.specs.Groups.{Group}
 use Rattle.changed_sets.specs.declared.turns.Cut.{Cut}
 use Rattle.changed_sets.specs.declared.turns.Patch.{Patch}

@@ -7,7 +7,7 @@ ghost use Rattle.changed_sets.specs.Fitting.{ArePatchesFit, DoCutsFit, DoTurnsFi
 ghost use Rattle.changed_sets.specs.declared.turns.Patch.{Patch as OnePatch};
 
 use crate::turns::{Cut, Patch, Turn};
-use confirmed_rows::fitting::are_listed_fit;
+use aging_cycles::fitting::are_listed_fit;
 use instances::Tree;
 use row_types::Row;
 use stored_tier::tier::Tier;

@@ -12,8 +12,8 @@ ghost use Rattle.changed_sets.specs.declared.turns.Patch.{Patch as OnePatch};
 
 use crate::turning::turn;
 use crate::turns::Patch;
-use confirmed_rows::confirming::confirm;
-use confirmed_rows::laws::kept_rows_law;
+use aging_cycles::confirming::confirm;
+use aging_cycles::laws::kept_rows_law;
 use group_store::Store;
 use slot_rows::SlotRows;
 use std::alloc::Global;

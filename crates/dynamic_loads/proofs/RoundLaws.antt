@@ -6,7 +6,7 @@ use Rattle.outside.specs.Others.{is_shared}
 use Rattle.outside.specs.Sites.{SiteState}
 use Rattle.propagators.specs.Certainty.{KeepsCertain}
 use Rattle.tier_journal.specs.declared.journal.TierJournal.{TierJournal}
-use Rattle.kept_journal.specs.Drafts.{StaysKept}
+use Rattle.tier_journal.specs.Drafts.{StaysKept}
 use Rattle.cache_tier.specs.declared.reply.Reply.{Reply}
 use Rattle.cache_tier.specs.DynamicLoads.{BringsWritethrough}
 use Rattle.cache_tier.specs.Groups.{is_table_of, is_writethrough}

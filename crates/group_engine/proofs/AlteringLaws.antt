@@ -44,8 +44,8 @@ use Rattle.group_engine.specs.Altering.{AimsAlter, AimsAlterIn, AltersAlone, Alt
 use Rattle.group_engine.specs.declared.ready.Ready.{Ready}
 use Rattle.group_engine.specs.Ready.{AnswersBehind, IsReadyFor, is_full_ready}
 use Rattle.group_engine.proofs.ReadyLaws.{full_then, kept_here, refused_over, wanting_over}
-use Rattle.kept_journal.specs.Drafts.{StaysKept}
-use Rattle.kept_journal.specs.Keeping.{KeepsOver}
+use Rattle.tier_journal.specs.Drafts.{StaysKept}
+use Rattle.tier_journal.specs.KeptOver.{KeepsOver}
 use Rattle.propagators.specs.Certainty.{KeepsCertain}
 use Rattle.tier_journal.specs.declared.journal.TierJournal.{TierJournal}
 use Rattle.outside.specs.Holding.{Held}

@@ -8,7 +8,7 @@ use Rattle.instances.specs.Trees.{is_place}
 use Rattle.outside.specs.Holding.{Held}
 use Rattle.outside.specs.Sites.{SiteState}
 use Rattle.propagators.specs.Certainty.{KeepsCertain}
-use Rattle.kept_journal.specs.Keeping.{DiskIsCaused, KeepsOver}
+use Rattle.tier_journal.specs.KeptOver.{DiskIsCaused, KeepsOver}
 use Rattle.tier_journal.specs.declared.journal.TierJournal.{TierJournal}
 use Rattle.sql_subset.specs.declared.stmt.RefreshState.TheVariants.{On}
 use Rattle.slot_rows.specs.SlotKeys.{RowsHeld}

@@ -19,7 +19,7 @@ use Rattle.outside.specs.declared.fault.BankError.{BankError}
 use Rattle.outside.specs.declared.fault.BankError.TheVariants.{Memory}
 use Rattle.outside.specs.declared.site.Snapshot.{Snapshot}
 use Rattle.propagators.specs.Certainty.{KeepsCertain}
-use Rattle.kept_journal.specs.Keeping.{DiskIsCaused, KeepsOver, is_broken, over_disk}
+use Rattle.tier_journal.specs.KeptOver.{DiskIsCaused, KeepsOver, is_broken, over_disk}
 use Rattle.tier_journal.specs.declared.journal.TierJournal.{TierJournal}
 use Rattle.order_laws.proofs.TruthLaws.{both_true, never_both}
 use Rattle.slot_rows.specs.SlotKeys.{RowsHeld}

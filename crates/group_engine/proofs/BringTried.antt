@@ -4,7 +4,7 @@ use Rattle.tier_base.specs.declared.code.Code.TheVariants as code
 use Rattle.sql_subset.specs.declared.stmt.RefreshState.TheVariants.{Off}
 use Rattle.outside.specs.Holding.{Held}
 use Rattle.outside.specs.Sites.{SiteState}
-use Rattle.kept_journal.specs.Drafts.{StaysKept}
+use Rattle.tier_journal.specs.Drafts.{StaysKept}
 use Rattle.tier_journal.specs.declared.journal.TierJournal.{TierJournal}
 use Rattle.group_catalog.specs.Catalogs.{groups_in}
 use Rattle.cache_tier.specs.declared.reply.Last.TheVariants.{Done}
@@ -16,8 +16,8 @@ use Rattle.cache_tier.specs.Reading.{TellsPosition}
 use Rattle.cache_tier.specs.TierStates.{refresh_tried}
 use Rattle.cache_tier.specs.Wants.{Want}
 use Rattle.cache_tier.specs.Worlds.{World, faulty, only}
-use Rattle.kept_journal.specs.Keeping.{DiskIsCaused, KeepsOver}
-use Rattle.kept_journal.proofs.FlushLaws.{still_over}
+use Rattle.tier_journal.specs.KeptOver.{DiskIsCaused, KeepsOver}
+use Rattle.tier_journal.proofs.FlushLaws.{still_over}
 use Rattle.stored_tier.specs.declared.tier.Tier.{Tier as Stored}
 use Rattle.stored_tier.specs.Performing.{IsCalm, IsCausedOver, IsStopCausedOver, PerformsOver, StandsFor}
 use Rattle.stored_tier.specs.Refreshing.{is_off}

@@ -49,7 +49,7 @@ use Rattle.group_engine.specs.Defining.{HasNewGroup, IsDefinition, IsReadyToCrea
 use Rattle.group_engine.specs.declared.ready.Ready.{Ready}
 use Rattle.group_engine.specs.Ready.{AnswersBehind, IsReadyFor, is_full_ready}
 use Rattle.group_engine.proofs.ReadyLaws.{full_ready, kept_here, refused_over, wanting_over}
-use Rattle.kept_journal.specs.Drafts.{StaysKept}
+use Rattle.tier_journal.specs.Drafts.{StaysKept}
 use Rattle.tier_journal.specs.declared.journal.TierJournal.{TierJournal}
 use Rattle.outside.specs.Holding.{Held}
 use Rattle.stored_tier.proofs.OverLaws.{keeps_stays}

@@ -5,7 +5,7 @@ use Rattle.sql_subset.specs.declared.stmt.RefreshState.TheVariants.{Off}
 use Rattle.outside.specs.declared.fault.BankError.{BankError}
 use Rattle.outside.specs.Holding.{Held}
 use Rattle.outside.specs.Sites.{SiteState}
-use Rattle.kept_journal.specs.Drafts.{StaysKept}
+use Rattle.tier_journal.specs.Drafts.{StaysKept}
 use Rattle.row_types.specs.declared.rule.Refused.{Refused}
 use Rattle.row_types.specs.declared.rule.Refused.TheVariants as refused
 use Rattle.tier_journal.specs.declared.journal.TierJournal.{TierJournal}

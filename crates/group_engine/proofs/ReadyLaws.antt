@@ -46,11 +46,11 @@ use Rattle.tier_journal.specs.Batches.{Adds, Holds, IsEmpty}
 use Rattle.tier_journal.specs.Keeping.{HasRoomFor, IsTooMuch, Keeps, KeepsOn, standing_in, version_in}
 use Rattle.tier_journal.specs.Leaving.{LeftByFlush}
 use Rattle.tier_journal.proofs.KeepLaws.{full_past, past_full}
-use Rattle.kept_journal.specs.declared.draft.Draft.{Draft}
-use Rattle.kept_journal.specs.Drafts.{IsDraftOf, StaysKept}
-use Rattle.kept_journal.specs.Keeping.{DiskIsCaused, IsOver, IsWrittenOver, KeepsOver, WritesDraft, is_broken, over_disk}
-use Rattle.kept_journal.proofs.DraftLaws.{full_so, one_entry, one_place, placed_so}
-use Rattle.kept_journal.proofs.FlushLaws.{IsRead, failed_over, fitting_over, flushed_over, still_over}
+use Rattle.tier_journal.specs.declared.draft.Draft.{Draft}
+use Rattle.tier_journal.specs.Drafts.{IsDraftOf, StaysKept}
+use Rattle.tier_journal.specs.KeptOver.{DiskIsCaused, IsOver, IsWrittenOver, KeepsOver, WritesDraft, is_broken, over_disk}
+use Rattle.tier_journal.proofs.DraftLaws.{full_so, one_entry, one_place, placed_so}
+use Rattle.tier_journal.proofs.FlushLaws.{IsRead, failed_over, fitting_over, flushed_over, still_over}
 use Rattle.stored_tier.specs.declared.tier.Tier.{Tier as Stored}
 use Rattle.stored_tier.specs.Performing.{Executes, IsCalm, IsCausedOver, KeepsSlots, PerformsInOver, StandsFor}
 use Rattle.stored_tier.specs.Stored.{HasSession, IsStoredAs}

@@ -5,7 +5,7 @@ use Rattle.outside.specs.Holding.{Held}
 use Rattle.outside.specs.Sites.{SiteState}
 use Rattle.propagators.specs.Certainty.{KeepsCertain}
 use Rattle.propagators.proofs.CertainLaws.{certain_then, no_longer}
-use Rattle.kept_journal.specs.Keeping.{KeepsOver}
+use Rattle.tier_journal.specs.KeptOver.{KeepsOver}
 use Rattle.tier_journal.specs.declared.journal.TierJournal.{TierJournal}
 use Rattle.cache_tier.specs.Wants.{Want}
 use Rattle.cache_tier.specs.Worlds.{World}

@@ -39,7 +39,7 @@ use Rattle.cache_tier.specs.declared.reply.Reply.{Reply}
 use Rattle.cache_tier.specs.Conditions.{overflow_fault}
 use Rattle.cache_tier.specs.Groups.{Group, covers, is_explicit, is_key, is_writethrough, with_keys}
 use Rattle.cache_tier.specs.LoadSteps.{added_answer}
-use Rattle.cache_tier.specs.GoesOn.{IsLonger}
+use Rattle.outside.specs.Calls.{Lengthens}
 use Rattle.cache_tier.specs.Reading.{Answers, TellsPosition, backing_at, state_or_none}
 use Rattle.cache_tier.specs.RefreshSteps.{judged_roots, refreshed_answer}
 use Rattle.cache_tier.specs.Rules.{broken_if, past, plain as plain_rule}
@@ -78,8 +78,8 @@ use Rattle.stored_tier.proofs.OverLaws.{keeps_called, keeps_stays}
 use Rattle.group_engine.specs.declared.ready.Ready.{Ready}
 use Rattle.group_engine.specs.Ready.{AnswersBehind, IgnoresDisk, IsReadyFor, is_full_ready}
 use Rattle.group_engine.proofs.ReadyLaws.{full_then}
-use Rattle.kept_journal.specs.Drafts.{StaysKept}
-use Rattle.kept_journal.specs.Keeping.{KeepsOver}
+use Rattle.tier_journal.specs.Drafts.{StaysKept}
+use Rattle.tier_journal.specs.KeptOver.{KeepsOver}
 use Rattle.propagators.specs.Certainty.{KeepsCertain}
 use Rattle.tier_journal.specs.declared.journal.TierJournal.{TierJournal}
 use Rattle.group_engine.proofs.TakenParts.{hidden_room, rows_room, stored_room}
@@ -273,7 +273,7 @@ module _ {D : Type 0} (state : D → SiteState) (possible : D → ℕ → Held �
   keeps_mid : KeepsOver state possible d' k mid
   keeps_mid = keeps_called state possible k d d' w mid keeps certain refl refl at_mid
 
-  longer : IsLonger w.history later
+  longer : Lengthens w.history later
   longer = read_longer w (TellsPosition (Ok n)) later (λ a b s. s.0) reads_call.history
 
   -- nothing was taken in

@@ -52,7 +52,7 @@ use Rattle.row_types.specs.declared.rule.Refused.{Refused}
 use Rattle.row_types.specs.declared.rule.Refused.TheVariants as refused
 use Rattle.tier_base.specs.declared.limit.Limit.TheVariants as limit
 use Rattle.cache_tier.specs.Rules.{past}
-use Rattle.kept_journal.specs.Drafts.{StaysKept}
+use Rattle.tier_journal.specs.Drafts.{StaysKept}
 use Rattle.tier_journal.specs.declared.journal.TierJournal.{TierJournal}
 use Rattle.outside.specs.Holding.{Held}
 use Rattle.stored_tier.proofs.OverLaws.{keeps_stays}

@@ -34,7 +34,7 @@ use Rattle.group_engine.specs.Ready.{AnswersBehind, IsReadyFor, is_full_ready}
 use Rattle.group_engine.proofs.ReadyLaws.{full_then}
 use Rattle.table_defs.specs.declared.definition.TableDef.{TableDef}
 use Rattle.outside.specs.Holding.{Held}
-use Rattle.kept_journal.specs.Keeping.{KeepsOver}
+use Rattle.tier_journal.specs.KeptOver.{KeepsOver}
 use Rattle.propagators.specs.Certainty.{KeepsCertain}
 use Rattle.tier_journal.specs.declared.journal.TierJournal.{TierJournal}
 use Rattle.stored_tier.proofs.OverLaws.{keeps_called}

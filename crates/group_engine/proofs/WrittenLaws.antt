@@ -23,7 +23,7 @@ use Rattle.stored_tier.proofs.OverLaws.{keeps_stays}
 use Rattle.group_engine.specs.declared.ready.Ready.{Ready}
 use Rattle.group_engine.specs.Loaded.{IsReadyToLoad}
 use Rattle.group_engine.specs.Ready.{AnswersBehind, IsReadyFor, is_full_ready}
-use Rattle.kept_journal.specs.Drafts.{StaysKept}
+use Rattle.tier_journal.specs.Drafts.{StaysKept}
 use Rattle.propagators.specs.Certainty.{KeepsCertain}
 use Rattle.tier_journal.specs.declared.journal.TierJournal.{TierJournal}
 use Rattle.group_engine.proofs.TakenParts.{matching_sound}

@@ -21,7 +21,7 @@ use Rattle.outside.specs.Sites.{SiteState}
 use Rattle.table_defs.specs.declared.definition.TableDef.{TableDef}
 use Rattle.cache_tier.specs.Journals.{Drops}
 use Rattle.tier_journal.specs.declared.journal.TierJournal.{TierJournal}
-use Rattle.kept_journal.specs.Keeping.{KeepsOver}
+use Rattle.tier_journal.specs.KeptOver.{KeepsOver}
 use Rattle.group_engine.specs.declared.ready.Ready.{Ready}
 use Rattle.group_engine.specs.Ready.{IsReadyFor}
 use Rattle.stored_tier.specs.Stored.{HasSession, IsStoredAs}

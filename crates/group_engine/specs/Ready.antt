@@ -16,9 +16,9 @@ use Rattle.tier_journal.specs.declared.batch.Batch.{Batch}
 use Rattle.tier_journal.specs.declared.journal.TierJournal.{TierJournal}
 use Rattle.tier_journal.specs.Batches.{Holds}
 use Rattle.tier_journal.specs.Keeping.{HasRoomFor, IsBehind, IsTooMuch}
-use Rattle.kept_journal.specs.declared.draft.Draft.{Draft}
-use Rattle.kept_journal.specs.Drafts.{IsDraftOf, IsPlaced, is_full_draft}
-use Rattle.kept_journal.specs.Keeping.{IsWrittenOver, KeepsOver, over_disk}
+use Rattle.tier_journal.specs.declared.draft.Draft.{Draft}
+use Rattle.tier_journal.specs.Drafts.{IsDraftOf, IsPlaced, is_full_draft}
+use Rattle.tier_journal.specs.KeptOver.{IsWrittenOver, KeepsOver, over_disk}
 use Rattle.stored_tier.specs.declared.tier.Tier.{Tier as Stored}
 use Rattle.stored_tier.specs.Performing.{IsPerformedOver, StandsFor}
 use Rattle.stored_tier.specs.Sites.{IsAt}

@@ -34,7 +34,7 @@ use Rattle.stored_tier.specs.Sites.{IsAt}
 use Rattle.outside.specs.Holding.{Held}
 use Rattle.outside.specs.Sites.{SiteState}
 use Rattle.tier_journal.specs.declared.journal.TierJournal.{TierJournal}
-use Rattle.kept_journal.specs.Keeping.{KeepsOver}
+use Rattle.tier_journal.specs.KeptOver.{KeepsOver}
 use Rattle.tier_base.specs.declared.limit.Limit.TheVariants as limit
 
 -- what of the tier is neither of its groups nor of their rows

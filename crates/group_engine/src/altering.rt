@@ -8,7 +8,7 @@ ghost use Rattle.group_catalog.specs.Catalogs.{groups_in};
 ghost use Rattle.group_catalog.specs.Kept.{group_seen};
 ghost use Rattle.group_engine.specs.Altering.{alter_state, AimsAlterIn, AltersAlone, AltersHere, AltersReady, AltersWith, IsReadyAt, TellsJoining, TellsLeaving};
 ghost use Rattle.group_engine.specs.Ready.{IsMemoryOf, IsPlacedReady};
-ghost use Rattle.kept_journal.specs.Drafts.{StaysKept};
+ghost use Rattle.tier_journal.specs.Drafts.{StaysKept};
 ghost use Rattle.stored_tier.specs.Refreshing.{choice_of};
 ghost use Rattle.stored_tier.specs.Performing.{Executes, IsCausedOver, PerformsInOver, reply_of};
 ghost use Rattle.stored_tier.specs.Stored.{IsSound};

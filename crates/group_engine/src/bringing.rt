@@ -9,7 +9,7 @@ ghost use Rattle.cache_tier.specs.Sets.{of_set};
 ghost use Rattle.changed_sets.specs.Since.{asked_since};
 ghost use Rattle.group_catalog.specs.Catalogs.{groups_in};
 ghost use Rattle.group_catalog.specs.Kept.{group_seen};
-ghost use Rattle.kept_journal.specs.Keeping.{DiskIsCaused};
+ghost use Rattle.tier_journal.specs.KeptOver.{DiskIsCaused};
 ghost use Rattle.statement_uses.specs.Wanting.{want_seen};
 ghost use Rattle.stored_tier.specs.Performing.{IsStopCausedOver, PerformsOver, stop_of};
 ghost use Rattle.stored_tier.specs.Refreshing.{IsStateAt, choice_of, is_filled};

@@ -23,7 +23,7 @@ ghost use Rattle.cache_tier.specs.Order.{refusal};
 ghost use Rattle.cache_tier.specs.TierStates.{Session as OneSession, Tier as AbstractTier};
 ghost use Rattle.group_engine.specs.Dropping.{DropsHere, IsFreeAt, IsReadyToGo, IsWithoutGroup, RoundFor, is_written_at};
 ghost use Rattle.group_engine.specs.Ready.{IsMemoryOf, IsPlacedReady};
-ghost use Rattle.kept_journal.specs.Drafts.{StaysKept};
+ghost use Rattle.tier_journal.specs.Drafts.{StaysKept};
 ghost use Rattle.stored_tier.specs.Grouping.{KeepsGroups};
 ghost use Rattle.stored_tier.specs.Stored.{named_where_cached, HasSession, IsSound, IsStoredAs};
 ghost use Rattle.stored_tier.specs.Performing.{Executes, IsCausedOver, IsStopCausedOver, PerformsInOver, PerformsOver, reply_of, stop_of};

@@ -9,7 +9,7 @@ ghost use Rattle.group_catalog.specs.Catalogs.{groups_in};
 ghost use Rattle.stored_tier.specs.Refreshing.{IsStateAt, choice_of, roots_kept};
 ghost use Rattle.group_engine.specs.Loaded.{IsDynamicAt, IsExplicitAt, IsReadyToLoad, LoadsWhole};
 ghost use Rattle.group_engine.specs.Ready.{IsMemoryOf, IsPlacedReady};
-ghost use Rattle.kept_journal.specs.Drafts.{StaysKept};
+ghost use Rattle.tier_journal.specs.Drafts.{StaysKept};
 ghost use Rattle.group_engine.specs.Taking.{IsGroupAt, IsOfTarget, LoadsNoted, PerformsWhere, ReadsTried};
 ghost use Rattle.stored_tier.specs.Performing.{IsCausedOver, reply_of};
 ghost use Rattle.stored_tier.specs.Stored.{IsSound};

@@ -5,18 +5,17 @@ ghost use Rattle.tier_base.specs.declared.limit.Limit.TheVariants as limit;
 ghost use Rattle.cache_tier.specs.declared.reply.Last.TheVariants.{No};
 ghost use Rattle.cache_tier.specs.Rules.{past};
 ghost use Rattle.cache_tier.specs.Worlds.{only};
-ghost use Rattle.kept_journal.specs.Drafts.{HasKept};
-ghost use Rattle.kept_journal.specs.Keeping.{DiskIsCaused, stop_of};
+ghost use Rattle.tier_journal.specs.Drafts.{HasKept};
+ghost use Rattle.tier_journal.specs.KeptOver.{DiskIsCaused, stop_of};
 ghost use Rattle.stored_tier.specs.Performing.{IsCalm, IsCausedOver};
 ghost use Rattle.group_engine.specs.Ready.{AnswersBehind, FillsAll, IsPlacedReady, WritesReady, is_full_ready};
 
 use cache_tier::reply::{Last, Reply};
-use kept_journal::{Draft, flush_draft};
 use outside::{Disk, Site};
 use row_types::{Detail, Rule};
 use std::alloc::{AllocError, Global};
 use tier_base::{Code, Limit};
-use tier_journal::{Batch, ReserveError, TierJournal};
+use tier_journal::{Batch, Draft, ReserveError, TierJournal, flush_draft};
 use tier_statements::{faulty, only};
 
 /// Entries that are made ready for the journal.

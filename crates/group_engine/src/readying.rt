@@ -9,18 +9,17 @@ ghost use Rattle.cache_tier.specs.Journals.{Defines, Drops, SetsLoaded, SetsStat
 ghost use Rattle.cache_tier.specs.Targets.{has_flag, load_entries};
 ghost use Rattle.cache_tier.specs.UnloadSteps.{unload_entries};
 ghost use Rattle.group_catalog.specs.Kept.{group_seen};
-ghost use Rattle.kept_journal.specs.Drafts.{StaysKept};
+ghost use Rattle.tier_journal.specs.Drafts.{StaysKept};
 ghost use Rattle.group_engine.specs.Ready.{IsReadyFor};
 ghost use Rattle.group_engine.specs.Readying.{differ, is_flagged, is_turned};
 
 use crate::aiming::{is_paused, is_read_only};
 use crate::ready::{Ready, room_made};
 use group_catalog::KeptGroup;
-use kept_journal::Draft;
 use sql_subset::stmt::RefreshState;
 use std::alloc::{AllocError, Global};
 use tier_base::Name;
-use tier_journal::{Batch, TierJournal};
+use tier_journal::{Batch, Draft, TierJournal};
 
 /// The STATE that a group gets, where it is another.
 pub(crate) fn ready_state(

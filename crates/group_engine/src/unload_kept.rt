@@ -11,8 +11,8 @@ ghost use Rattle.group_engine.specs.UnloadHidden.{IsCutHiding, hides_some};
 use crate::aiming::Aim;
 use crate::unload_hidden::cut_hiding;
 use crate::unloading::{clear_group, cut_group};
-use confirmed_rows::confirming::confirm;
-use confirmed_rows::laws::kept_rows_law;
+use aging_cycles::confirming::confirm;
+use aging_cycles::laws::kept_rows_law;
 use std::alloc::{AllocError, Global};
 use stored_tier::tier::Tier;
 

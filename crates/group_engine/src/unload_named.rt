@@ -13,7 +13,8 @@ use row_types::{Column, Key, Row, Value, rescaled};
 use std::alloc::{AllocError, Global};
 use table_defs::TableDef;
 
-/// The keys of the root rows that match. Where WITH ID tells the only one that may, it is looked up.
+/// The keys of the root rows that match, where the root rows fit their table. Where WITH ID tells the only one that
+/// may, it is looked up.
 pub(crate) fn leaving(
     alloc: Global,
     store: &Store,

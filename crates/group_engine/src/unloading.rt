@@ -19,7 +19,7 @@ ghost use Rattle.group_engine.specs.Unloading.{IsClearedAt, IsClearedBy, IsClear
 ghost use Rattle.group_engine.specs.UnloadLocks.{LocksTold, RootsTold, UnloadTold};
 ghost use Rattle.group_engine.specs.UnloadNamed.{FitsUnder};
 ghost use Rattle.group_catalog.specs.Catalogs.{groups_in};
-ghost use Rattle.kept_journal.specs.Drafts.{StaysKept};
+ghost use Rattle.tier_journal.specs.Drafts.{StaysKept};
 ghost use Rattle.stored_tier.specs.Performing.{Executes, IsCausedOver, PerformsInOver, reply_of};
 ghost use Rattle.group_engine.specs.Ready.{IsMemoryOf, IsPlacedReady};
 ghost use Rattle.stored_tier.specs.Stored.{IsSound};

@@ -243,7 +243,7 @@ impl RecentRows {
         ensures spare { self.old.spare ≤ self.new.spare }
     {
         let slot = self.rows.slot_at(place);
-        let _ = self.recent.remove(&slot);
+        self.recent.remove(&slot);
         self.rows.remove_at(place)
     }
 
@@ -257,7 +257,7 @@ impl RecentRows {
         match self.rows.slot_of(key) {
             None => None,
             Some(slot) => {
-                let _ = self.recent.remove(&slot);
+                self.recent.remove(&slot);
                 self.rows.remove(key)
             }
         }

@@ -7,7 +7,7 @@ use Rattle.outside.specs.Sites.{SiteState}
 use Rattle.cache_tier.specs.declared.reply.Reply.{Reply}
 use Rattle.cache_tier.specs.Worlds.{IsUnshared, World}
 use Rattle.cache_engine.specs.Requests.{Given, LineRun}
-use Rattle.kept_journal.specs.Keeping.{IsOver, KeepsOver}
+use Rattle.tier_journal.specs.KeptOver.{IsOver, KeepsOver}
 use Rattle.run_laws.specs.Runs.{Reopened}
 use Rattle.tier_journal.specs.declared.journal.TierJournal.{TierJournal}
 use Rattle.session_cli.specs.Outside.{WasKept}

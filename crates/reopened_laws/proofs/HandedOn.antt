@@ -2,7 +2,7 @@
 use Rattle.std.proofs.Common.{◌≡◌, Option, Some, None, false, List, [], ◌∷◌, refl, subst}
 use Rattle.cache_tier.specs.declared.reply.Reply.{Reply}
 use Rattle.cache_tier.specs.Worlds.{IsUnshared, World}
-use Rattle.kept_journal.specs.Keeping as kept
+use Rattle.tier_journal.specs.KeptOver as kept
 use Rattle.left_laws.proofs.LeftWorlds.{goes_on}
 use Rattle.line_laws.specs.Keeping.{is_broken}
 use Rattle.run_laws.specs.Lines.{MayGoOn}

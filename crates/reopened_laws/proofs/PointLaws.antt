@@ -34,7 +34,7 @@ use Rattle.tier_journal.specs.declared.journal.TierJournal.{TierJournal}
 use Rattle.tier_journal.specs.Leaving.{GivesEntries}
 use Rattle.tier_journal.specs.Opening.{opened_journal}
 use Rattle.tier_journal.specs.Writing.{HasTables}
-use Rattle.kept_journal.specs.Leaving.{HasBecome}
+use Rattle.tier_journal.specs.Ways.{HasBecome}
 use Rattle.tier_opening.specs.Opening.{BeginsIn, MayOpen, Say, begun_tier}
 use Rattle.tier_opening.proofs.NewLaws.{left_by}
 use Rattle.reopened_laws.specs.Ending.{MayOpenAgain}

@@ -29,8 +29,8 @@ use Rattle.tier_journal.specs.Opening.{StandForAll, StandsFor}
 use Rattle.tier_journal.specs.Reading.{name_in_op, read_state}
 use Rattle.tier_journal.specs.Writing.{HasTables, IsOfSchema, name_in, name_of, written, written_all, written_op, written_ops, written_state}
 use Rattle.tier_journal.proofs.WrittenLaws.{all_grown, all_stay}
-use Rattle.kept_journal.specs.Leaving.{HasBecome}
-use Rattle.kept_journal.proofs.WayLaws.{flushed_gives, flushed_tables, no_more}
+use Rattle.tier_journal.specs.Ways.{HasBecome}
+use Rattle.tier_journal.proofs.WayLaws.{flushed_gives, flushed_tables, no_more}
 use Rattle.tier_opening.specs.Opening.{Say}
 use Rattle.reopened_laws.specs.Leaving.{HasText, HaveOwnTableNames, IsKeptAt, IsLeftAt, ReadBack, ReadsBack}
 

@@ -12,7 +12,8 @@ use Rattle.outside.specs.Holding.{Held}
 use Rattle.outside.specs.Others.{is_shared}
 use Rattle.outside.specs.Sites.{SiteState}
 use Rattle.cache_tier.specs.declared.reply.Reply.{Reply}
-use Rattle.cache_tier.specs.GoesOn.{IsLonger, LeadsTo}
+use Rattle.cache_tier.specs.GoesOn.{LeadsTo}
+use Rattle.outside.specs.Calls.{Lengthens}
 use Rattle.cache_tier.specs.Groups.{is_table_of, is_writethrough}
 use Rattle.cache_tier.specs.Journals.{Journal, JournalEntry, Way}
 use Rattle.cache_tier.specs.JournalWays.{Beginning, beginning_in, beginning_of, first_of}
@@ -24,10 +25,10 @@ use Rattle.cache_tier.proofs.WayLaws.{flush_leads, way_on_way}
 use Rattle.line_laws.proofs.FlushLaws.{IsWhole, kept_flushes, tail_flushed}
 use Rattle.cache_engine.specs.Opening.{Opens}
 use Rattle.cache_engine.specs.Requests.{Given, LineRun, LineStep}
-use Rattle.kept_journal.specs.Beginning.{begun_here}
-use Rattle.kept_journal.specs.Keeping as kept
-use Rattle.kept_journal.specs.Keeping.{KeepsOver}
-use Rattle.kept_journal.specs.Leaving.{HasBecome, LeavesOnWay, LeavesPoints}
+use Rattle.tier_journal.specs.Beginning.{begun_here}
+use Rattle.tier_journal.specs.KeptOver as kept
+use Rattle.tier_journal.specs.KeptOver.{KeepsOver}
+use Rattle.tier_journal.specs.Ways.{HasBecome, LeavesOnWay, LeavesPoints}
 use Rattle.left_laws.proofs.LeftWorlds.{is_left}
 use Rattle.recovery.specs.Journalled.{IsJournalledOn}
 use Rattle.recovery.specs.Recalling.{AreMatched}
@@ -81,7 +82,7 @@ record HoldsOn (w : World) (early : List Sealed) : Type 0 where
 record LedFrom (w v : World) (early : List Sealed) : Type 0 where
   holds : HoldsOn v early
   began : beginning_of v.journal ≡ beginning_of w.journal
-  longer : IsLonger w.history v.history
+  longer : Lengthens w.history v.history
 
 left_of : (once : World → Type 0) (w : World) → WasLeft once w → IsLeft w
 left_of once w x = is_left x.engine.tier x.engine.doubt w x.order.sound x.left
@@ -98,7 +99,7 @@ line_holds once w mid g reply early h x apart whole y step = record { on = on_th
     here : IsJournalledOn mid h.on.now
     here = step_kept g.base w mid step.0 reply h.on.now m h.on.is there (whole_too reply whole) step.2
 
-longer_then : (a b c : List Entry) → IsLonger a b → IsLonger b c → IsLonger a c
+longer_then : (a b c : List Entry) → Lengthens a b → Lengthens b c → Lengthens a c
 longer_then a b c x y = record { more = x.more ++ y.more; is = y.is ∙ ap (λ h. h ++ y.more) x.is ∙ append_assoc a x.more y.more }
 
 led : (once : World → Type 0) (w0 w : World) (lines : List Given) (replies : List (Option Reply)) (v : World) (early : List Sealed) → LedFrom w0 w early → (run : LineRun w lines replies v) → GoesOn once w lines replies v run → LedFrom w0 v early

@@ -7,7 +7,7 @@ use Rattle.table_state.specs.Tables.{TableState}
 use Rattle.outside.specs.Holding.{Held}
 use Rattle.outside.specs.Sites.{SiteState}
 use Rattle.commit_journal.specs.Layout.{HaveBytes}
-use Rattle.kept_journal.specs.Keeping.{KeepsOver}
+use Rattle.tier_journal.specs.KeptOver.{KeepsOver}
 use Rattle.cache_tier.specs.declared.reply.Reply.{Reply}
 use Rattle.cache_tier.specs.TierStates.{Settings}
 use Rattle.cache_tier.specs.Worlds.{IsUnshared, World}

@@ -13,8 +13,8 @@ use Rattle.cache_tier.specs.Journals.{JournalEntry}
 use Rattle.cache_tier.specs.TierStates.{Settings}
 use Rattle.cache_tier.specs.Worlds.{IsUnshared, World}
 use Rattle.tier_journal.specs.Leaving.{GivesEntries}
-use Rattle.kept_journal.specs.Keeping.{KeepsOver}
-use Rattle.kept_journal.specs.Leaving.{HasBecome}
+use Rattle.tier_journal.specs.KeptOver.{KeepsOver}
+use Rattle.tier_journal.specs.Ways.{HasBecome}
 use Rattle.recovery.specs.SafeWays.{IsSafe}
 use Rattle.cache_engine.specs.Opening.{Opens}
 use Rattle.cache_engine.specs.Requests.{Given, LineRun}

@@ -12,10 +12,10 @@ use Rattle.session_cli.specs.declared.checker.Checker.{Checker}
 use Rattle.session_cli.specs.declared.serving.Status.TheVariants.{Finished, SourceFailed, NoMemory, InputTooLong}
 use Rattle.session_cli.specs.Cutting.{cut, front_of, text_of, ended_lines, all_lines}
 use Rattle.session_cli.specs.Ends.{Taken}
-use Rattle.session_cli.specs.Output.{Splits, Breaks, Passes}
+use Rattle.reply_lines.specs.Output.{Splits, Breaks, Passes}
 use Rattle.session_cli.specs.Checking.{Checks, ChecksOr, check_reply, AreChecked, CheckedWhole, CheckedShort, Tells, Checking, CheckFeeds, CheckClosing, CheckBreaks, CheckCloses, CheckFinishes, CheckEnded, IsNewChecker, status_of}
 use Rattle.session_cli.proofs.CuttingLaws.{ended_push, rest_ended, ended_same, rest_push, front_push, front_short, text_front, take_one, take_within, all_ended, all_more}
-use Rattle.session_cli.proofs.OutputLaws.{splits_then, breaks_then}
+use Rattle.reply_lines.proofs.OutputLaws.{splits_then, breaks_then}
 use Rattle.session_cli.proofs.ServingLaws.{replies_push, told_after, take_rest, take_whole}
 use Rattle.session_cli.proofs.EndsLaws.{Taking, TakeOf, taking_new, taken_failed, taken_long, taken_all, taken_unwritten, taken_in_piece, taking_on}
 

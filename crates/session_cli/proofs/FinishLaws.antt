@@ -11,7 +11,7 @@ use Rattle.cache_tier.specs.Replying.{replies_bytes, reply_bytes}
 use Rattle.cache_tier.specs.Rounds.{IsDrained}
 use Rattle.cache_tier.specs.Worlds.{Passes, World}
 use Rattle.cache_tier.specs.declared.reply.Reply.{Reply}
-use Rattle.kept_journal.specs.Keeping.{KeepsOver, is_broken, over_disk}
+use Rattle.tier_journal.specs.KeptOver.{KeepsOver, is_broken, over_disk}
 use Rattle.stored_tier.proofs.OverLaws.{flush_breaks, never_both}
 use Rattle.tier_journal.specs.declared.journal.TierJournal.{TierJournal}
 use Rattle.cache_engine.specs.Finishing.{IsFinished}
@@ -21,11 +21,11 @@ use Rattle.session_cli.specs.declared.answering.Stop.{Stop}
 use Rattle.session_cli.specs.declared.answering.Stop.TheVariants as stop
 use Rattle.session_cli.specs.Cutting.{all_lines}
 use Rattle.session_cli.specs.Outside.{Outside, WasKept, seen}
-use Rattle.session_cli.specs.Output.{Breaks, Splits}
+use Rattle.reply_lines.specs.Output.{Breaks, Splits}
 use Rattle.session_cli.specs.Serving.{Answered, Closing, EndBroken, EndsKept, Finishes, HasFlushed, Origin, PassesReply, StandsHere, TellsFault, WritesLast}
 use Rattle.session_cli.specs.Timing.{Coming}
 use Rattle.session_cli.proofs.DrainedLaws.{drained_of}
-use Rattle.session_cli.proofs.OutputLaws.{breaks_then, splits_then}
+use Rattle.reply_lines.proofs.OutputLaws.{breaks_then, splits_then}
 use Rattle.session_cli.proofs.ServingLaws.{replies_push, told_after, told_whole}
 use Rattle.session_cli.proofs.RunLaws.{since_map}
 use Rattle.session_cli.proofs.SlotLaws.{in_slots}

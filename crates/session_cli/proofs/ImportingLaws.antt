@@ -12,7 +12,7 @@ use Rattle.cache_tier.specs.declared.reply.Reply.{Reply}
 use Rattle.cache_tier.specs.Journals.{Journal}
 use Rattle.cache_tier.specs.TierStates.{Tier}
 use Rattle.evaluator.specs.declared.change.Change.{Change}
-use Rattle.kept_journal.specs.Keeping.{KeepsOver}
+use Rattle.tier_journal.specs.KeptOver.{KeepsOver}
 use Rattle.propagators.specs.Certainty.{KeepsCertain}
 use Rattle.row_types.specs.declared.rule.Rule.{Rule}
 use Rattle.stored_tier.proofs.OverLaws.{keeps_called}
@@ -34,12 +34,12 @@ use Rattle.session_cli.specs.declared.serving.Status.TheVariants.{DiskFailed, In
 use Rattle.session_cli.specs.Importing.{ImportEnds, ImportRuns, Imported, ImportsNothing, Puts, TakesAll, TellsImport}
 use Rattle.session_cli.specs.Opening.{TellsWhy}
 use Rattle.session_cli.specs.Outside.{Outside, seen}
-use Rattle.session_cli.specs.Output.{Breaks, Passes, Splits}
+use Rattle.reply_lines.specs.Output.{Breaks, Passes, Splits}
 use Rattle.session_cli.specs.Timing.{Coming, IsNext}
 use Rattle.session_cli.specs.Ends.{Taken}
 use Rattle.session_cli.proofs.EndsLaws.{TakeOf, kept_told, took}
 use Rattle.session_cli.proofs.OpeningLaws.{is_bank, is_disk, next_of, not_source, tells_memory}
-use Rattle.session_cli.proofs.OutputLaws.{breaks_flushed, splits_flushed}
+use Rattle.reply_lines.proofs.OutputLaws.{breaks_flushed, splits_flushed}
 use Rattle.session_cli.proofs.SlotLaws.{in_slots}
 use Rattle.session_cli.proofs.ServingLaws.{take_rest}
 use Rattle.stored_tier.specs.declared.clock.Pace.{Pace}

@@ -18,15 +18,15 @@ use Rattle.session_cli.specs.declared.session.Session.{Session}
 use Rattle.session_cli.specs.Ends.{Runs, Serves, takes_none}
 use Rattle.session_cli.specs.Opening.{TellsLine, TellsWhy, begins, unopened_line}
 use Rattle.session_cli.specs.Outside.{Outside, WasKept, seen}
-use Rattle.session_cli.specs.Output.{Breaks, Splits}
+use Rattle.reply_lines.specs.Output.{Breaks, Splits}
 use Rattle.session_cli.specs.Serving.{LedSince, Serving, StandsHere, StandsIn, WasLeft}
 use Rattle.session_cli.specs.Timing.{AreLeft, Coming, IsNext}
 use Rattle.session_cli.proofs.CuttingLaws.{front_short}
-use Rattle.session_cli.proofs.OutputLaws.{breaks_then, splits_then}
+use Rattle.reply_lines.proofs.OutputLaws.{breaks_then, splits_then}
 use Rattle.session_cli.proofs.ServingLaws.{take_rest}
 use Rattle.session_cli.proofs.SlotLaws.{in_slots}
 use Rattle.session_cli.proofs.WayLaws.{kept_once, stands_begun_at}
-use Rattle.kept_journal.specs.Beginning.{begun_here}
+use Rattle.tier_journal.specs.Beginning.{begun_here}
 use Rattle.stored_tier.specs.declared.clock.Pace.{Pace}
 use Rattle.stored_tier.specs.Stored.{pace_of}
 

@@ -5,8 +5,8 @@ use Rattle.cache_tier.specs.MoreFacts.{FaultsAreCaused, RunIsCaused}
 use Rattle.cache_tier.specs.Steps.{Asked, Run}
 use Rattle.cache_tier.specs.Worlds.{IsUnshared, World}
 use Rattle.cache_tier.specs.declared.reply.Reply.{Reply}
-use Rattle.kept_journal.specs.Beginning.{begun_here}
-use Rattle.kept_journal.specs.Keeping.{is_broken}
+use Rattle.tier_journal.specs.Beginning.{begun_here}
+use Rattle.tier_journal.specs.KeptOver.{is_broken}
 use Rattle.cache_engine.specs.Requests.{Given, LineGoes, LineRun, LineStep}
 use Rattle.session_cli.specs.Serving.{Anywhere, Comes, ComesBroken, GoesOn, LedSince, LedSinceEach, Origin, WasLeft, bytes_of}
 use Rattle.session_cli.specs.Timing.{AreLeft, AreTimed, Coming, IsNext, TakesBase, has_base}

@@ -4,8 +4,8 @@ use Rattle.std.specs.Io.KnownBytes.{Appends}
 use Rattle.cache_tier.specs.declared.reply.Reply.{Reply}
 use Rattle.cache_tier.specs.Replying.{reply_bytes, replies_bytes}
 use Rattle.cache_tier.specs.Worlds.{IsUnshared, World}
-use Rattle.kept_journal.specs.Beginning.{begun_here}
-use Rattle.kept_journal.specs.Keeping.{is_broken}
+use Rattle.tier_journal.specs.Beginning.{begun_here}
+use Rattle.tier_journal.specs.KeptOver.{is_broken}
 use Rattle.cache_engine.specs.Requests.{Given}
 use Rattle.cache_engine.specs.declared.engine.Engine.{Engine}
 use Rattle.cache_engine.proofs.EngineLaws.{known_of}
@@ -16,11 +16,11 @@ use Rattle.session_cli.specs.declared.answering.Stop.TheVariants as stop
 use Rattle.session_cli.specs.declared.session.Session.{Session}
 use Rattle.session_cli.specs.Cutting.{cut, front_of, text_of, ended_lines, all_lines}
 use Rattle.session_cli.specs.Outside.{Outside}
-use Rattle.session_cli.specs.Output.{Splits, Breaks}
+use Rattle.reply_lines.specs.Output.{Splits, Breaks}
 use Rattle.session_cli.specs.Serving.{Answered, Broken, Closes, Closing, Comes, CutShort, EndsKept, Feeds, GoesOn, HasFlushed, IsLeftAlone, LedSince, LedSinceEach, LineBroken, LineLeads, Origin, PassesReply, Responds, Rests, Serving, StandsHere, StandsIn, StopsAt, WasLeft, Whole}
 use Rattle.session_cli.proofs.CuttingLaws.{ended_push, rest_ended, ended_same, rest_push, front_push, front_short, text_front, take_one, take_within, all_ended, all_more}
 use Rattle.session_cli.proofs.DrainedLaws.{drained_of}
-use Rattle.session_cli.proofs.OutputLaws.{splits_then, breaks_then}
+use Rattle.reply_lines.proofs.OutputLaws.{splits_then, breaks_then}
 use Rattle.session_cli.proofs.RunLaws.{CameOn, GoesOnFrom, broken_on, comes_on, goes_then, since_map}
 use Rattle.session_cli.proofs.WayLaws.{unshared_too}
 

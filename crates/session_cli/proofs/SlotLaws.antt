@@ -4,7 +4,7 @@ use Rattle.outside.specs.Holding.{Held}
 use Rattle.outside.specs.Sites.{SiteState}
 use Rattle.cache_tier.specs.Worlds.{World}
 use Rattle.tier_journal.specs.declared.journal.TierJournal.{TierJournal}
-use Rattle.kept_journal.specs.Keeping.{KeepsOver}
+use Rattle.tier_journal.specs.KeptOver.{KeepsOver}
 use Rattle.session_cli.specs.Outside.{IsInSlots}
 
 never_kept : true ≡ false → ⊥

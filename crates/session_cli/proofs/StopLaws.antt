@@ -6,7 +6,7 @@ use Rattle.outside.specs.Faults.{Rose}
 use Rattle.outside.specs.Sites.{SiteState}
 use Rattle.cache_tier.specs.Steps.{faults_in, note_tells}
 use Rattle.cache_tier.specs.declared.reply.Reply.{Reply}
-use Rattle.kept_journal.specs.Keeping.{DiskIsCaused, is_broken}
+use Rattle.tier_journal.specs.KeptOver.{DiskIsCaused, is_broken}
 use Rattle.tier_journal.specs.declared.journal.TierJournal.{TierJournal}
 use Rattle.cache_engine.specs.Requests.{IsLineCaused}
 use Rattle.session_cli.specs.declared.answering.Stop.{Stop}

@@ -12,9 +12,9 @@ use Rattle.cache_engine.specs.declared.engine.Engine.{Engine}
 use Rattle.cache_engine.proofs.WritingLaws.{written_seen}
 use Rattle.outside.specs.Others.{is_shared}
 use Rattle.tier_journal.specs.declared.journal.TierJournal.{TierJournal}
-use Rattle.kept_journal.specs.Beginning.{begun_here}
-use Rattle.kept_journal.specs.Keeping.{KeepsOver}
-use Rattle.kept_journal.proofs.WayLaws.{ways_begin}
+use Rattle.tier_journal.specs.Beginning.{begun_here}
+use Rattle.tier_journal.specs.KeptOver.{KeepsOver}
+use Rattle.tier_journal.proofs.WayLaws.{ways_begin}
 use Rattle.stored_tier.specs.declared.tier.Tier.{Tier as Stored}
 use Rattle.stored_tier.specs.Performing.{StandsFor}
 use Rattle.stored_tier.specs.Sites.{IsAt}

@@ -23,7 +23,7 @@ use Rattle.session_cli.specs.declared.serving.Status.TheVariants.{SchemaFailed, 
 use Rattle.session_cli.specs.declared.serving.Status.TheVariants.{Differs, InputTooLong}
 use Rattle.session_cli.specs.Cutting.{cut, front_of, ended_lines, all_lines}
 use Rattle.session_cli.specs.Ends.{Taken}
-use Rattle.session_cli.specs.Output.{Splits, Breaks}
+use Rattle.reply_lines.specs.Output.{Splits, Breaks}
 
 -- a refusal, by its rule
 abbrev pub broken : Rule → Option Reply

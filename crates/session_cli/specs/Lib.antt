@@ -1,9 +1,11 @@
 pub mod Checking
+pub mod Commands
 pub mod Cutting
 pub mod Ends
 pub mod Importing
 pub mod Opening
-pub mod Output
 pub mod Outside
+pub mod Running
 pub mod Serving
+pub mod Summaries
 pub mod Timing

@@ -7,7 +7,7 @@ use Rattle.cache_tier.specs.Worlds.{World}
 use Rattle.tier_journal.specs.declared.journal.TierJournal.{TierJournal}
 use Rattle.tier_journal.specs.Keeping.{Keeps}
 use Rattle.stored_tier.specs.Sites.{IsAt}
-use Rattle.kept_journal.specs.Keeping.{KeepsOver}
+use Rattle.tier_journal.specs.KeptOver.{KeepsOver}
 use Rattle.session_cli.specs.Timing.{Coming}
 
 -- that this journal is kept over a disk in this world

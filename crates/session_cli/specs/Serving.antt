@@ -5,8 +5,8 @@ use Rattle.std.specs.Prelude.{length, map, take}
 use Rattle.std.specs.Result.{IsErrOf}
 use Rattle.outside.specs.Faults.{Rose}
 use Rattle.order_laws.specs.Commits.{KeepsCommitOrder}
-use Rattle.kept_journal.specs.Beginning.{begun_here}
-use Rattle.kept_journal.specs.Keeping.{is_broken}
+use Rattle.tier_journal.specs.Beginning.{begun_here}
+use Rattle.tier_journal.specs.KeptOver.{is_broken}
 use Rattle.cache_tier.specs.declared.reply.Reply.{Reply}
 use Rattle.cache_tier.specs.Replying.{reply_bytes, replies_bytes}
 use Rattle.cache_tier.specs.Rounds.{IsDrained}
@@ -23,7 +23,7 @@ use Rattle.session_cli.specs.declared.answering.Stop.{Stop}
 use Rattle.session_cli.specs.declared.answering.Stop.TheVariants as stop
 use Rattle.session_cli.specs.declared.session.Session.{Session}
 use Rattle.session_cli.specs.Cutting.{cut, front_of, ended_lines, all_lines}
-use Rattle.session_cli.specs.Output.{Breaks, Splits}
+use Rattle.reply_lines.specs.Output.{Breaks, Splits}
 use Rattle.session_cli.specs.Outside.{IsInSlots, IsKeptNow, Keeping, Outside}
 use Rattle.session_cli.specs.Timing.{AreLeft, AreTimed, Coming, TakesBase}
 

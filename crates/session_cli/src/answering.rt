@@ -10,14 +10,13 @@ ghost use Rattle.session_cli.specs.Outside.{seen};
 ghost use Rattle.session_cli.specs.Serving.{HasStopCause, IsStopCaused, PassesReply, Responds, TellsFault};
 ghost use Rattle.session_cli.specs.Serving.{WritesLast};
 
-use crate::output::Output;
-use crate::replies::write_reply;
 use crate::timing::line_base;
 use cache_engine::engine::Engine;
 use cache_engine::request::request;
 use cache_tier::heeding::heed_law;
 use cache_tier::reply::{Last, Reply};
 use outside::{Clock, Failed, Sink, Site};
+use reply_lines::{Output, write_reply};
 use std::alloc::Global;
 use tier_base::Code;
 

@@ -8,10 +8,9 @@ ghost use Rattle.cache_tier.specs.declared.reply.Reply.{Reply as TierReply};
 ghost use Rattle.session_cli.specs.Checking.{AreChecked, CheckHasCause, Checks, Tells};
 
 use crate::line::LineBuffer;
-use crate::output::Output;
-use crate::replies::write_reply;
 use cache_tier::reply::Reply;
 use outside::Sink;
+use reply_lines::{Output, write_reply};
 use row_types::{Detail, Rule};
 use sql_subset::line::{one_meaning, parse_line};
 use sql_subset::request::ParseError;

@@ -4,7 +4,7 @@ ghost use Rattle.std.specs.Prelude.{◌≡◌, ◌<◌, ◌⊎◌, [], Err, IfOk
 ghost use Rattle.outside.specs.Faults.{HasCause, Rose};
 ghost use Rattle.cache_tier.specs.Worlds.{World};
 ghost use Rattle.command_line.specs.declared.settings.ClockSource.TheVariants.{Script};
-ghost use Rattle.kept_journal.specs.Keeping.{KeepsOver};
+ghost use Rattle.tier_journal.specs.KeptOver.{KeepsOver};
 ghost use Rattle.stored_tier.specs.Sites.{IsAt};
 ghost use Rattle.stored_tier.specs.Stored.{IsStoredAs};
 ghost use Rattle.session_cli.specs.Ends.{Taken};
@@ -13,14 +13,13 @@ ghost use Rattle.session_cli.specs.Opening.{tier_settings};
 ghost use Rattle.session_cli.specs.Outside.{seen};
 ghost use Rattle.session_cli.specs.Timing.{IsNext, bases_by};
 
-use crate::output::Output;
-use crate::replies::write_reply;
 use crate::serving::{Status, end_told, pace_in};
 use cache_engine::engine::Engine;
 use cache_engine::importing::import_rows;
 use cache_engine::opening::{OpenError, open};
 use command_line::{ClockSource, Settings};
 use outside::{Clock, Failed, Sink, Site, Source};
+use reply_lines::{Output, write_reply};
 use std::alloc::Global;
 use tier_base::Moment;
 

@@ -12,9 +12,9 @@ ghost use Rattle.command_line.specs.declared.settings.ClockSource.TheVariants.{S
 ghost use Rattle.command_line.specs.declared.settings.Settings.{Settings as Set};
 ghost use Rattle.command_line.specs.Keys.{AreBad, IsSetBy};
 ghost use Rattle.command_line.specs.Words.{Asks, Refuses, texts};
-ghost use Rattle.script_commands.specs.Commands.{Benches, Makes, number_of as number_of_end};
-ghost use Rattle.script_commands.specs.declared.commands.End.{End};
+ghost use Rattle.session_cli.specs.declared.commands.End.{End};
 ghost use Rattle.session_cli.specs.Checking.{AreChecked, CheckRuns};
+ghost use Rattle.session_cli.specs.Commands.{Benches, Makes, number_of as number_of_end};
 ghost use Rattle.session_cli.specs.Ends.{Runs, Takes, Unstarted, number_of, takes_none};
 ghost use Rattle.session_cli.specs.Importing.{ImportRuns};
 ghost use Rattle.session_cli.specs.Opening.{tier_settings};
@@ -23,16 +23,17 @@ ghost use Rattle.session_cli.specs.Timing.{bases_by};
 
 use crate::checker::check_law;
 use crate::checking::check;
+use crate::commands::{make, tell_bench};
 use crate::fixed_clock::FixedClock;
 use crate::importing::import;
 use crate::laws::caused_law;
+use crate::progress::Progress;
 use crate::serving::{Status, pace_in, serve};
 use command_line::{
     ClockSource, Command, CommandError, Settings, SettingsError, read_command, read_settings,
     settings_law,
 };
 use outside::{Clock, Sink, Site, Source};
-use script_commands::{Progress, make, tell_bench};
 use std::alloc::Global;
 use tier_base::Moment;
 

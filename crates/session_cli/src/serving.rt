@@ -11,12 +11,12 @@ ghost use Rattle.session_cli.specs.Outside.{seen};
 
 use crate::answering::Stop;
 use crate::line::LineBuffer;
-use crate::output::Output;
-use crate::replies::write_unopened;
 use crate::session::Session;
+use crate::unopened::write_unopened;
 use cache_engine::opening::{OpenError, open};
 use command_line::Settings;
 use outside::{Clock, Failed, Sink, Site, Source};
+use reply_lines::Output;
 use std::alloc::Global;
 use stored_tier::clock::Pace;
 

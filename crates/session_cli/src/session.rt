@@ -2,10 +2,10 @@
 
 use crate::answering::{Stop, pass_on, respond};
 use crate::line::LineBuffer;
-use crate::output::Output;
 use cache_engine::engine::Engine;
 use cache_engine::finishing::finish as finish_engine;
 use outside::{Clock, Failed, Sink, Site};
+use reply_lines::Output;
 use std::alloc::Global;
 
 /// What is kept between the pieces of the input.

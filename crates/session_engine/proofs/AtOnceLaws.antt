@@ -30,7 +30,7 @@ use Rattle.cache_tier.specs.StandingBetween.{HasKeys, Each, HaveWritten, Stands,
 use Rattle.cache_tier.proofs.GroupPairs.{IsKept, pairs_mapped, same_tables}
 use Rattle.stored_tier.specs.Stored.{are_later, are_on}
 use Rattle.session_engine.proofs.KindLaws.{none_conflicts}
-use Rattle.session_engine.proofs.OthersLaws.{came_by}
+use Rattle.stored_tier.proofs.OthersLaws.{came_by}
 
 -- the laws of a commit, of others' transactions, of a round, and of a ticket that is given to nothing
 

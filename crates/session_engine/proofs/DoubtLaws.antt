@@ -31,7 +31,7 @@ use Rattle.cache_tier.specs.Worlds.{BankCall, World}
 use Rattle.cache_tier.specs.declared.reply.Note.{Note}
 use Rattle.cache_tier.specs.declared.reply.Reply.{Reply}
 use Rattle.cache_tier.specs.Events.{StaysShown, at_history, with_tier}
-use Rattle.cache_tier.specs.GoesOn.{IsLonger}
+use Rattle.outside.specs.Calls.{Lengthens}
 use Rattle.cache_tier.specs.StandingBetween.{AreReadAt, Stands}
 use Rattle.order_laws.specs.Commits.{KeepsCommitOrder}
 use Rattle.stored_tier.specs.declared.tier.Tier.{Tier as Stored}
@@ -59,7 +59,7 @@ use Rattle.session_engine.proofs.CommitPerformed.{own_through, rows_then}
 use Rattle.session_engine.proofs.CommittedLists.{lists_committed}
 use Rattle.session_engine.proofs.KindLaws.{bare_later, none_met}
 use Rattle.session_engine.proofs.LegalLaws.{StandsInDoubt, in_doubt_stands}
-use Rattle.session_engine.proofs.OthersLaws.{CameBy, came_by, others_more}
+use Rattle.stored_tier.proofs.OthersLaws.{CameBy, came_by, others_more}
 
 -- the law of a session's rollback
 abbrev pub EndsLaw : Type 0
@@ -203,7 +203,7 @@ module _ (laws : AreLaws) (numbers : NumberLaw) (changes : ChangeLaw) (t : Store
     abbrev pub around : Around was.shared (FailedStep own_sealed) was.history h
     around = joined was.shared own_sealed was.history w.history h x.call.history (subst (λ tables. CameBy tables w.history h) shared_is more)
 
-    pub longer : IsLonger was.history h
+    pub longer : Lengthens was.history h
     longer = around_longer was (FailedStep own_sealed) h (once_longer own_sealed [] (Err Failed)) around
 
     pub stands_still_in : StandsInDoubt was h

@@ -62,7 +62,7 @@ use Rattle.stored_tier.proofs.BankLaws.{behind, call_behind, told_behind}
 use Rattle.session_engine.proofs.ChangedLaws.{WrittenLaw, hidden_used, rows_used, stored_written, through_seen, unheld, uses_seen}
 use Rattle.session_engine.proofs.InsertLaws.{seen_schema}
 use Rattle.session_engine.proofs.InsertedLaws.{EntriesLaw, IsLeftIn, KnowsIn, PendingLaw, asked, behind_call}
-use Rattle.session_engine.proofs.OthersLaws.{only_reads}
+use Rattle.stored_tier.proofs.OthersLaws.{only_reads}
 use Rattle.stored_tier.proofs.HiddenRows.{hides_later, hides_then}
 use Rattle.stored_tier.proofs.LongerLaws.{around_longer, row_longer}
 use Rattle.stored_tier.proofs.QuietLaws.{calm_by, its_session}

@@ -9,10 +9,10 @@ use Rattle.sql_subset.specs.declared.stmt.Stmt.TheVariants as statement
 use Rattle.outside.specs.Holding.{Held}
 use Rattle.outside.specs.Sites.{SiteState}
 use Rattle.tier_journal.specs.declared.journal.TierJournal.{TierJournal}
-use Rattle.kept_journal.specs.declared.draft.Draft.{Draft}
-use Rattle.kept_journal.specs.Drafts.{IsDraftOf, StaysKept, is_full_draft}
-use Rattle.kept_journal.specs.Keeping.{KeepsOver}
-use Rattle.kept_journal.proofs.DraftLaws.{full_so}
+use Rattle.tier_journal.specs.declared.draft.Draft.{Draft}
+use Rattle.tier_journal.specs.Drafts.{IsDraftOf, StaysKept, is_full_draft}
+use Rattle.tier_journal.specs.KeptOver.{KeepsOver}
+use Rattle.tier_journal.proofs.DraftLaws.{full_so}
 use Rattle.cache_tier.specs.JournalSteps.{journal_fault}
 use Rattle.cache_tier.specs.Journals.{JournalEntry}
 use Rattle.cache_tier.specs.Rules.{broken_if, past}

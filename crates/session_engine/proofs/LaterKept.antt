@@ -15,9 +15,9 @@ use Rattle.open_sessions.specs.Opening.{seen_all}
 use Rattle.session_state.specs.Sessions.{OpenSession}
 use Rattle.group_catalog.specs.Catalogs.{groups_in}
 use Rattle.tier_journal.specs.declared.journal.TierJournal.{TierJournal}
-use Rattle.kept_journal.specs.declared.draft.Draft.{Draft}
-use Rattle.kept_journal.specs.Drafts.{IsDraftOf, StaysKept, is_full_draft}
-use Rattle.kept_journal.specs.Keeping.{DiskIsCaused, IsWrittenOver, KeepsOver, WritesDraft, is_broken, over_disk}
+use Rattle.tier_journal.specs.declared.draft.Draft.{Draft}
+use Rattle.tier_journal.specs.Drafts.{IsDraftOf, StaysKept, is_full_draft}
+use Rattle.tier_journal.specs.KeptOver.{DiskIsCaused, IsWrittenOver, KeepsOver, WritesDraft, is_broken, over_disk}
 use Rattle.cache_tier.specs.CommitSteps.{ends, sealed_own}
 use Rattle.cache_tier.specs.JournalSteps.{NotesKept, Records}
 use Rattle.cache_tier.specs.Journals.{Commits, JournalEntry}

@@ -25,7 +25,6 @@ pub mod NowKept
 pub mod OffLaws
 pub mod OpStores
 pub mod OrderedRows
-pub mod OthersLaws
 pub mod OwnStores
 pub mod PassedDone
 pub mod PassedDoubt

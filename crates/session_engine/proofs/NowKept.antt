@@ -19,10 +19,10 @@ use Rattle.open_sessions.specs.Opening.{seen_all}
 use Rattle.group_catalog.specs.Catalogs.{groups_in}
 use Rattle.propagators.specs.Certainty.{KeepsCertain}
 use Rattle.tier_journal.specs.declared.journal.TierJournal.{TierJournal}
-use Rattle.kept_journal.specs.declared.draft.Draft.{Draft}
-use Rattle.kept_journal.specs.Drafts.{IsDraftOf, StaysKept, is_full_draft}
-use Rattle.kept_journal.specs.Keeping.{DiskIsCaused, KeepsOver, WritesDraft, is_broken, over_disk}
-use Rattle.kept_journal.proofs.DraftLaws.{full_so}
+use Rattle.tier_journal.specs.declared.draft.Draft.{Draft}
+use Rattle.tier_journal.specs.Drafts.{IsDraftOf, StaysKept, is_full_draft}
+use Rattle.tier_journal.specs.KeptOver.{DiskIsCaused, KeepsOver, WritesDraft, is_broken, over_disk}
+use Rattle.tier_journal.proofs.DraftLaws.{full_so}
 use Rattle.cache_tier.specs.CommitSteps.{after_applied, sealed_own}
 use Rattle.cache_tier.specs.Events.{with_tier}
 use Rattle.cache_tier.specs.Groups.{is_synchronous}

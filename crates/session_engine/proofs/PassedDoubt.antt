@@ -40,7 +40,7 @@ use Rattle.session_engine.specs.declared.doubt.Doubted.{Doubted}
 use Rattle.session_engine.proofs.AtOnceLaws.{none_came, unused}
 use Rattle.session_engine.proofs.DoubtLaws.{AskedOnce, ops_there, stands_with, stands_within, undoubted}
 use Rattle.session_engine.proofs.KindLaws.{bare_later}
-use Rattle.session_engine.proofs.OthersLaws.{CameBy, came_by, others_more}
+use Rattle.stored_tier.proofs.OthersLaws.{CameBy, came_by, others_more}
 use Rattle.session_engine.proofs.PassedDone.{StandsUnknown, laws, none_met_off, off_ops, passed_came, unknown_stands}
 use Rattle.session_engine.proofs.PassedShown.{numbered, passed_tier, passed_to}
 

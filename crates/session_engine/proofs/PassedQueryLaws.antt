@@ -51,7 +51,7 @@ use Rattle.stored_tier.proofs.HiddenRows.{hides_later}
 use Rattle.stored_tier.proofs.LongerLaws.{read_longer}
 use Rattle.stored_tier.proofs.StandingLaws.{performed_behind, slots_kept}
 use Rattle.session_engine.specs.Selecting.{PassesQuery}
-use Rattle.session_engine.proofs.OthersLaws.{only_reads}
+use Rattle.stored_tier.proofs.OthersLaws.{only_reads}
 
 -- the tables that were asked for are those of the state, and a query reads no other
 

@@ -10,7 +10,7 @@ use Rattle.outside.specs.Holding.{Held}
 use Rattle.outside.specs.Passing.{PassesWrite}
 use Rattle.outside.specs.Sites.{SiteState}
 use Rattle.tier_journal.specs.declared.journal.TierJournal.{TierJournal}
-use Rattle.kept_journal.specs.Keeping.{KeepsOver, is_broken}
+use Rattle.tier_journal.specs.KeptOver.{KeepsOver, is_broken}
 use Rattle.outside.specs.declared.fault.BankError.TheVariants.{Failed}
 use Rattle.order_laws.specs.Commits.{KeepsCommitOrder}
 use Rattle.table_state.specs.declared.operation.Op.{Op}

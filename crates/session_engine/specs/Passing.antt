@@ -13,7 +13,7 @@ use Rattle.outside.specs.declared.site.Done.{Done as Wrote}
 use Rattle.outside.specs.declared.site.Done.TheVariants.{Rows, Broken}
 use Rattle.resolution.specs.Writes.{change_seen}
 use Rattle.tier_journal.specs.declared.journal.TierJournal.{TierJournal}
-use Rattle.kept_journal.specs.Keeping.{KeepsOver}
+use Rattle.tier_journal.specs.KeptOver.{KeepsOver}
 use Rattle.cache_tier.specs.PassedSteps.{PassesOn}
 use Rattle.cache_tier.specs.Routes.{is_written_through}
 use Rattle.cache_tier.specs.TierStates.{Session}

@@ -13,7 +13,7 @@ ghost use Rattle.cache_tier.specs.Worlds.{only};
 ghost use Rattle.cache_tier.specs.declared.reply.Last.TheVariants.{Done};
 ghost use Rattle.cache_tier.specs.TierStates.{Tier as AbstractTier};
 ghost use Rattle.cache_tier.specs.Journals.{Prepares};
-ghost use Rattle.kept_journal.specs.Drafts.{IsDraftOf, is_full_draft};
+ghost use Rattle.tier_journal.specs.Drafts.{IsDraftOf, is_full_draft};
 ghost use Rattle.stored_tier.specs.Performing.{Executes, IsCausedOver, reply_of};
 ghost use Rattle.stored_tier.specs.Stored.{IsSound, IsStoredAs, are_on};
 ghost use Rattle.session_engine.specs.AtOnce.{Concludes, Draws, Finishes, Rooms};
@@ -29,7 +29,6 @@ use crate::resting::commit_session;
 use cache_tier::reply::Reply;
 use cache_tier::{commit_shown_law, others_shown_law, round_shown_law};
 use group_catalog::Catalog;
-use kept_journal::{Draft, flush_draft};
 use open_sessions::laws::label_law;
 use order_laws::flow_skip_law;
 use outside::{Applied, BankError, Site};
@@ -39,7 +38,7 @@ use std::alloc::{AllocError, Global};
 use stored_tier::tier::Tier;
 use table_state::{Op, Ops, Sealed, copied_ops};
 use tier_base::{Code, Limit, Seq, SessionId, Ticket};
-use tier_journal::TierJournal;
+use tier_journal::{Draft, TierJournal, flush_draft};
 use tier_statements::{done, faulty};
 
 /// A transaction that is ready for the backing database, and its operations for the stores.

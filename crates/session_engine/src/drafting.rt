@@ -5,18 +5,17 @@ ghost use Rattle.table_defs.specs.Declarations.{Tells};
 ghost use Rattle.cache_tier.specs.Journals.{Commits, Numbers, Prepares};
 ghost use Rattle.cache_tier.specs.PassedSteps.{ticket_fault};
 ghost use Rattle.cache_tier.specs.TierStates.{Session as OneSession, Tier as AbstractTier};
-ghost use Rattle.kept_journal.specs.Drafts.{IsDraftOf, StaysKept};
+ghost use Rattle.tier_journal.specs.Drafts.{IsDraftOf, StaysKept};
 ghost use Rattle.session_engine.specs.Committing.{commit_fault, sealed_next};
 ghost use Rattle.stored_tier.specs.Stored.{HasSession, IsSound, IsStoredAs};
 
 use crate::commit::{judge_commit, past};
-use kept_journal::Draft;
 use open_sessions::laws::label_law;
 use row_types::Refused;
 use std::alloc::{AllocError, Global};
 use stored_tier::tier::Tier;
 use tier_base::{Limit, SessionId, Ticket};
-use tier_journal::TierJournal;
+use tier_journal::{Draft, TierJournal};
 
 /// The entry of a COMMIT of asynchronous writes, made ready for the journal. Only room comes to the journal.
 ///

@@ -3,7 +3,7 @@
 ghost use Rattle.std.specs.Prelude.{◌≡◌, ◌+◌, ◌≤◌, None, Ok, false};
 ghost use Rattle.cache_tier.specs.Journals.{Numbers};
 ghost use Rattle.cache_tier.specs.PassedSteps.{passed_reply};
-ghost use Rattle.kept_journal.specs.Drafts.{IsDraftOf, is_full_draft};
+ghost use Rattle.tier_journal.specs.Drafts.{IsDraftOf, is_full_draft};
 ghost use Rattle.session_engine.specs.Doubting.{IsReady};
 ghost use Rattle.session_engine.specs.Passing.{EndsPassed, doubt_of};
 ghost use Rattle.stored_tier.specs.Performing.{IsCausedOver, reply_of};
@@ -14,13 +14,12 @@ use crate::doubt::{Doubt, Doubted};
 use crate::drafting::draft_number;
 use cache_tier::reply::Reply;
 use evaluator::Change;
-use kept_journal::{Draft, flush_draft};
 use outside::{BankError, Done, Site};
 use row_types::Refused;
 use std::alloc::Global;
 use stored_tier::tier::Tier;
 use tier_base::{Code, Limit, Seq, SessionId, Ticket};
-use tier_journal::TierJournal;
+use tier_journal::{Draft, TierJournal, flush_draft};
 use tier_statements::{done, faulty, refuses};
 
 /// A write that is passed on: its ticket's number is flushed to the journal, where the tier keeps one; the ticket is

@@ -13,14 +13,13 @@ use crate::commit::{commit_writes, past};
 use crate::drafting::{draft_commit, is_durable};
 use cache_tier::commit_shown_law;
 use cache_tier::reply::Reply;
-use kept_journal::record_draft;
 use open_sessions::laws::label_law;
 use outside::Site;
 use row_types::Refused;
 use std::alloc::Global;
 use stored_tier::tier::Tier;
 use tier_base::{Limit, SessionId};
-use tier_journal::TierJournal;
+use tier_journal::{TierJournal, record_draft};
 
 /// COMMIT of an open session that has written tables of ASYNCHRONOUS WRITETHROUGH groups, as `commit_writes`. Where the
 /// tier keeps a journal, the entry of the commit waits in its tail; or, of a durable session, is flushed with the tail

@@ -22,7 +22,7 @@ use Rattle.group_catalog.specs.Catalogs.{groups_in}
 use Rattle.group_store.specs.Stores.{Kept}
 use Rattle.cache_tier.specs.declared.group.AgingRule.{AgingRule}
 use Rattle.cache_tier.specs.declared.group.AgingRule.TheVariants.{ByTime, LastUse}
-use Rattle.cache_tier.specs.GoesOn.{IsLonger}
+use Rattle.outside.specs.Calls.{Lengthens}
 use Rattle.cache_tier.specs.Groups.{Group, has_list, is_key, is_read_only}
 use Rattle.cache_tier.specs.Sets.{Choice, changed_from}
 use Rattle.cache_tier.specs.Shown.{root_key, state_behind}
@@ -85,12 +85,12 @@ within_history t w k g stands at =
     let x = group_behind t w k g stands at in
     subst (IsReadWithin (length w.history)) x.2 (λ n e. each_at (IsReadWithin (length w.history)) w.tier.groups k x.0 stands.stands.read.within x.1 n e)
 
-pub hides_later : (t : Stored) (w : World) (later : List Entry) → StandsFor t w → IsLonger w.history later → HidesRows t later
+pub hides_later : (t : Stored) (w : World) (later : List Entry) → StandsFor t w → Lengthens w.history later → HidesRows t later
 hides_later t w later stands longer =
     subst (HidesRows t) (sym longer.is) (λ k g x at hides there. view_later w.history longer.more g x.table (within_history t w k g stands at) (stands.hides k g x at hides there))
 
 -- of another tier with its groups and hidden rows
-pub hides_then : (t new : Stored) (w : World) (later : List Entry) → KeepsHidden t new → StandsFor t w → IsLonger w.history later → HidesRows new later
+pub hides_then : (t new : Stored) (w : World) (later : List Entry) → KeepsHidden t new → StandsFor t w → Lengthens w.history later → HidesRows new later
 hides_then t new w later keeps stands longer = hides_still t new later keeps (hides_later t w later stands longer)
 
 -- ---- what is hidden, and what isn't

@@ -24,6 +24,7 @@ pub mod WayLaws
 pub mod WriterLaws
 pub mod FillSteps
 pub mod GatherLaws
+pub mod OthersLaws
 pub mod PutLaws
 pub mod RefreshSteps
 pub mod StoreForms

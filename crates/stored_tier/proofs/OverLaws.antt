@@ -8,7 +8,7 @@ use Rattle.outside.specs.Sites.{SiteState}
 use Rattle.propagators.specs.Certainty.{KeepsCertain}
 use Rattle.tier_journal.specs.declared.journal.TierJournal.{TierJournal}
 use Rattle.tier_journal.specs.Keeping.{Keeps}
-use Rattle.kept_journal.specs.Keeping.{DiskIsCaused, IsWrittenOver, KeepsOver, is_broken, over_disk}
+use Rattle.tier_journal.specs.KeptOver.{DiskIsCaused, IsWrittenOver, KeepsOver, is_broken, over_disk}
 use Rattle.cache_tier.specs.declared.reply.Reply.{Reply}
 use Rattle.cache_tier.specs.Journals.{Journal, JournalEntry}
 use Rattle.tier_base.specs.declared.limit.Limit.TheVariants as limit
@@ -20,15 +20,15 @@ use Rattle.cache_tier.specs.TierStates.{Tier}
 use Rattle.cache_tier.specs.declared.reply.Last.TheVariants.{No}
 use Rattle.cache_tier.specs.Steps.{tells}
 use Rattle.cache_tier.specs.Worlds.{Answer, Part, Passes, Stage, Then, World, faulty, only}
-use Rattle.kept_journal.specs.declared.draft.Draft.{Draft}
-use Rattle.kept_journal.specs.Drafts.{IsDraftOf, StaysKept, is_full_draft}
-use Rattle.kept_journal.proofs.DraftLaws.{full_so}
+use Rattle.tier_journal.specs.declared.draft.Draft.{Draft}
+use Rattle.tier_journal.specs.Drafts.{IsDraftOf, StaysKept, is_full_draft}
+use Rattle.tier_journal.proofs.DraftLaws.{full_so}
 use Rattle.cache_tier.specs.StandingBetween.{Stands}
 use Rattle.stored_tier.specs.declared.tier.Tier.{Tier as Stored}
 use Rattle.stored_tier.specs.Performing.{IsCaused, IsCausedOver, IsPerformedOver, KeepsSlots, Performs, PerformsOver, StandsFor, StaysWritten}
 use Rattle.stored_tier.specs.Sites.{IsAt}
-use Rattle.kept_journal.specs.Leaving.{HasBecome}
-use Rattle.kept_journal.proofs.WayLaws.{leaves_as, no_more}
+use Rattle.tier_journal.specs.Ways.{HasBecome}
+use Rattle.tier_journal.proofs.WayLaws.{leaves_as, no_more}
 use Rattle.stored_tier.proofs.WayLaws.{at_history_of, grown_leaves}
 
 pub never_both : (b : Bool) → b ≡ true → b ≡ false → ⊥

@@ -41,7 +41,7 @@ use Rattle.group_catalog.specs.Catalogs.{groups_in}
 use Rattle.stored_tier.specs.declared.tier.Tier.{Tier as Stored}
 use Rattle.propagators.specs.Certainty.{KeepsCertain}
 use Rattle.tier_journal.specs.declared.journal.TierJournal.{TierJournal}
-use Rattle.kept_journal.specs.Keeping.{DiskIsCaused, WritesOver, is_broken, over_disk}
+use Rattle.tier_journal.specs.KeptOver.{DiskIsCaused, WritesOver, is_broken, over_disk}
 use Rattle.stored_tier.specs.Draining.{AppliesAll, IsEnded, SettlesAll, settled_reply, settled_stop}
 use Rattle.stored_tier.specs.Performing.{IsCaused, IsCausedOver, Performs, PerformsOver, StandsFor, stop_of}
 use Rattle.stored_tier.specs.Refusing.{TellsDifference, TellsRoundEnd}

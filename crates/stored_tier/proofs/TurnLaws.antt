@@ -13,8 +13,8 @@ use Rattle.tier_journal.specs.declared.batch.Batch.{Batch}
 use Rattle.tier_journal.specs.declared.journal.TierJournal.{TierJournal}
 use Rattle.tier_journal.specs.Batches.{Holds}
 use Rattle.table_defs.specs.declared.definition.TableDef.{TableDef}
-use Rattle.kept_journal.specs.Keeping.{DiskIsCaused, KeepsOver, over_disk}
-use Rattle.kept_journal.specs.Turning.{TurnsOver, is_long_kept}
+use Rattle.tier_journal.specs.KeptOver.{DiskIsCaused, KeepsOver, over_disk}
+use Rattle.tier_journal.specs.Turning.{TurnsOver, is_long_kept}
 use Rattle.stored_tier.specs.declared.clock.Pace.{Pace}
 use Rattle.stored_tier.specs.declared.tier.Tier.{Tier as Stored}
 use Rattle.stored_tier.specs.NewSlots.{begun_entries}

@@ -13,8 +13,8 @@ use Rattle.cache_tier.specs.Worlds.{World}
 use Rattle.tier_journal.specs.declared.journal.TierJournal.{TierJournal}
 use Rattle.tier_journal.specs.Keeping.{Keeps}
 use Rattle.tier_journal.specs.Leaving.{GivesEntries}
-use Rattle.kept_journal.specs.Leaving.{HasBecome, IsOnWay, LeavesOnWay, LeavesPoints}
-use Rattle.kept_journal.proofs.WayLaws.{flushed_gives, flushed_tables, point_later, point_now, take_whole}
+use Rattle.tier_journal.specs.Ways.{HasBecome, IsOnWay, LeavesOnWay, LeavesPoints}
+use Rattle.tier_journal.proofs.WayLaws.{flushed_gives, flushed_tables, point_later, point_now, take_whole}
 use Rattle.stored_tier.specs.Sites.{IsAt}
 
 -- a history that is longer

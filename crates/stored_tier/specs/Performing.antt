@@ -27,7 +27,7 @@ use Rattle.stored_tier.specs.declared.tier.Tier.{Tier as Stored}
 use Rattle.stored_tier.specs.Sites.{IsAt}
 use Rattle.outside.specs.Sites.{SiteState}
 use Rattle.tier_journal.specs.declared.journal.TierJournal.{TierJournal}
-use Rattle.kept_journal.specs.Keeping.{KeepsOver, is_broken}
+use Rattle.tier_journal.specs.KeptOver.{KeepsOver, is_broken}
 use Rattle.stored_tier.specs.Stored.{HasSession, HidesRows, IsStoredAs, ShowsRows}
 
 -- an operation of these is on the table

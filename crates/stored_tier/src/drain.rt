@@ -11,19 +11,18 @@ use crate::new_slot::slot_batch;
 use crate::tier::Tier;
 use cache_tier::reply::{Last, Reply};
 use cache_tier::round_shown_law;
-use kept_journal::{flush_tail, is_long, rotate_journal};
 use outside::Site;
 use propagators::laws::{follow_law, left_law};
 use propagators::{RoundFault, round};
 use row_types::{Detail, Key, Rule};
 use std::alloc::{AllocError, Global};
 use tier_base::{Code, Name, TableId};
-use tier_journal::TierJournal;
+use tier_journal::{TierJournal, flush_tail, is_long, rotate_journal};
 use tier_statements::{done, faulty, only};
 
 impl Tier {
     ghost use Rattle.cache_tier.specs.Rotations.{RotatesIfLong};
-    ghost use Rattle.kept_journal.specs.Keeping.{DiskIsCaused};
+    ghost use Rattle.tier_journal.specs.KeptOver.{DiskIsCaused};
     ghost use Rattle.propagators.specs.Certainty.{KeepsCertain};
     ghost use Rattle.stored_tier.specs.Draining.{AppliesAll, SettlesAll, settled_reply, settled_stop};
     ghost use Rattle.stored_tier.specs.Performing.{IsCaused, IsCausedOver, IsStopCausedOver, Performs, PerformsOver, stop_of};

@@ -5,3 +5,7 @@ pub mod BatchLaws
 pub mod KeepLaws
 pub mod ReadLaws
 pub mod TestLaws
+pub mod DraftLaws
+pub mod WayLaws
+pub mod FlushLaws
+pub mod TurnLaws

@@ -4,3 +4,8 @@ pub mod Keeping
 pub mod Leaving
 pub mod Opening
 pub mod Reading
+pub mod Beginning
+pub mod Drafts
+pub mod KeptOver
+pub mod Ways
+pub mod Turning

@@ -17,9 +17,9 @@ use Rattle.commit_journal.specs.Layout.{HaveBytes, Reads}
 use Rattle.propagators.specs.Certainty.{KeepsCertain}
 use Rattle.recovery_laws.specs.Notes.{commits_in}
 use Rattle.cache_tier.specs.Journals.{JournalEntry, next_behind}
-use Rattle.kept_journal.specs.Beginning.{begun_here}
-use Rattle.kept_journal.specs.Keeping.{KeepsOver}
-use Rattle.kept_journal.proofs.WayLaws.{ways_begin}
+use Rattle.tier_journal.specs.Beginning.{begun_here}
+use Rattle.tier_journal.specs.KeptOver.{KeepsOver}
+use Rattle.tier_journal.proofs.WayLaws.{ways_begin}
 use Rattle.cache_tier.specs.StandingBetween.{Each, Stands}
 use Rattle.cache_tier.specs.TierStates.{Settings, opened}
 use Rattle.cache_tier.specs.Worlds.{IsUnshared, World}
@@ -39,7 +39,7 @@ use Rattle.stored_tier.specs.Sites.{IsAt}
 use Rattle.stored_tier.specs.Stored.{pace_of}
 use Rattle.stored_tier.proofs.BankLaws.{TellsBehind, told_behind}
 use Rattle.stored_tier.proofs.OverLaws.{keeps_called}
-use Rattle.session_engine.proofs.OthersLaws.{CameBy, came_by, schema_reads, schema_told}
+use Rattle.stored_tier.proofs.OthersLaws.{CameBy, came_by, schema_reads, schema_told}
 use Rattle.tier_opening.specs.Opening.{BeginsIn, IsOpened, IsOpenedIn, begun_tier, world_of}
 use Rattle.tier_opening.specs.Telling.{IsDiffering, IsNamed}
 use Rattle.tier_opening.proofs.BeginLaws.{RecalledLaw, all_still, begins_as, begun_stands}

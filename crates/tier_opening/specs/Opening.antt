@@ -18,7 +18,7 @@ use Rattle.cache_tier.specs.WayPoints.{with_way}
 use Rattle.cache_tier.specs.Worlds.{IsUnshared, World}
 use Rattle.tier_journal.specs.declared.journal.TierJournal.{TierJournal}
 use Rattle.tier_journal.specs.Opening.{StandForAll, opened_journal}
-use Rattle.kept_journal.specs.Keeping.{IsOver}
+use Rattle.tier_journal.specs.KeptOver.{IsOver}
 use Rattle.recovery.specs.Recalling.{AreMatched, RecallsAll, recalled}
 use Rattle.recovery.specs.Reopening.{Reopens, with_sets_begun}
 use Rattle.stored_tier.specs.declared.tier.Tier.{Tier as Stored}

@@ -12,11 +12,12 @@ mod reply;
 mod routing;
 
 pub use answering::answer_query;
+pub use cache_tier::reply::{faulty, only};
 pub use catalog::Catalog;
 pub use judging::{apply_fault, are_small, judge_ops};
 pub use keys::{has_key, taken};
 pub use locks::lock_fault;
 pub use naming::{name_query, name_write};
 pub use preparing::{prepare_write, session_effects};
-pub use reply::{bank_fault, done, faulty, only, refuse, refuses};
+pub use reply::{bank_fault, done, refuse, refuses};
 pub use routing::{Route, RoutedWrite, route_query, route_write};

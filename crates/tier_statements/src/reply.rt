@@ -2,25 +2,14 @@
 
 ghost use Rattle.std.specs.Prelude.{◌≡◌};
 ghost use Rattle.cache_tier.specs.declared.reply.Last.TheVariants.{Done, No};
-ghost use Rattle.cache_tier.specs.Worlds.{bank_fault, faulty, only};
+ghost use Rattle.cache_tier.specs.Worlds.{bank_fault, only};
 ghost use Rattle.tier_statements.specs.Replies.{reply_to};
 
-use cache_tier::reply::{Last, Reply};
+use cache_tier::reply::{Last, Reply, faulty, only};
 use outside::BankError;
-use row_types::{Detail, Refused, Rule};
+use row_types::{Refused, Rule};
 use std::alloc::Global;
-use tier_base::{Code, Seq};
-
-/// A reply of its last line alone.
-pub fn only(alloc: Global, last: Last) -> Reply
-    ensures { result ≡ only last }
-{
-    Reply {
-        notes: Seq::new(alloc),
-        rows: Seq::new(alloc),
-        last,
-    }
-}
+use tier_base::Code;
 
 /// `ok n`: so many rows, groups, instances, or the ticket.
 pub fn done(alloc: Global, number: u64) -> Reply
@@ -34,17 +23,6 @@ pub fn refuses(alloc: Global, rule: Rule) -> Reply
     ensures { result ≡ only (No rule) }
 {
     only(alloc, Last::No(rule))
-}
-
-/// A fault of the outside, or want of memory.
-pub fn faulty(alloc: Global, code: Code) -> Reply
-    ensures { result ≡ faulty code }
-{
-    let rule = Rule {
-        code,
-        detail: Detail::Nothing,
-    };
-    only(alloc, Last::Fault(rule))
 }
 
 /// A failed call of the backing database, or its want of memory.

@@ -2,7 +2,7 @@ use Rattle.std.proofs.Common.{refl}
 use Rattle.std.specs.Prelude.{Err, Ok}
 use Rattle.outside.specs.Bank.{TellsSchema}
 use Rattle.cache_engine.proofs.BeginningLaws.{began_at, begun}
-use Rattle.session_engine.proofs.OthersLaws.{schema_reads}
+use Rattle.stored_tier.proofs.OthersLaws.{schema_reads}
 use Rattle.cache_engine.proofs.beginning.begin.Goals as goal
 
 pub returns-in-Err-clause-later : goal.returns-in-Err-clause-later

@@ -1,5 +1,5 @@
 use Rattle.cache_engine.proofs.FinishingLaws.{finished}
-use Rattle.kept_journal.specs.Keeping.{stop_of}
+use Rattle.tier_journal.specs.KeptOver.{stop_of}
 use Rattle.cache_engine.proofs.finishing.finish.Goals as goal
 
 pub returns-clause-finishes : goal.returns-clause-finishes

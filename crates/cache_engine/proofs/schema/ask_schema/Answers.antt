@@ -3,7 +3,7 @@ use Rattle.std.specs.Prelude.{Err, Ok}
 use Rattle.outside.specs.declared.fault.BankError.TheVariants.{Memory}
 use Rattle.propagators.proofs.CertainLaws.{bank_certain}
 use Rattle.cache_engine.proofs.AskingLaws.{asked_and_told, asked_in_vain, not_asked}
-use Rattle.session_engine.proofs.OthersLaws.{schema_reads}
+use Rattle.stored_tier.proofs.OthersLaws.{schema_reads}
 use Rattle.cache_engine.proofs.schema.ask_schema.Goals as goal
 
 pub returns-then-not-has_to_ask-clause-performs : goal.returns-then-not-has_to_ask-clause-performs

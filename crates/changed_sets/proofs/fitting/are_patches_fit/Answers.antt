@@ -1,6 +1,6 @@
 use Rattle.std.proofs.Common.{arith, refl}
 use Rattle.group_catalog.specs.Catalogs.{groups_in}
-use Rattle.confirmed_rows.proofs.FitLaws.{element, one_more}
+use Rattle.aging_cycles.proofs.FitLaws.{element, one_more}
 use Rattle.changed_sets.proofs.KeptLaws.{PatchFitsAt, all_patches_fit}
 use Rattle.changed_sets.proofs.fitting.are_patches_fit.Goals as goal
 

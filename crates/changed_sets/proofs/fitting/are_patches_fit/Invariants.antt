@@ -1,6 +1,6 @@
 -- The patches so far fit.
 use Rattle.group_catalog.specs.Catalogs.{groups_in}
-use Rattle.confirmed_rows.proofs.FitLaws.{AllBelow}
+use Rattle.aging_cycles.proofs.FitLaws.{AllBelow}
 use Rattle.changed_sets.proofs.KeptLaws.{PatchFitsAt}
 use Rattle.changed_sets.proofs.fitting.are_patches_fit.Given as goal
 

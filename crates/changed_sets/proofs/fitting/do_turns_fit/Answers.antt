@@ -1,5 +1,5 @@
 use Rattle.std.proofs.Common.{arith, refl}
-use Rattle.confirmed_rows.proofs.FitLaws.{all_elements, element, one_more}
+use Rattle.aging_cycles.proofs.FitLaws.{all_elements, element, one_more}
 use Rattle.changed_sets.specs.Fitting.{FitWhere}
 use Rattle.changed_sets.specs.declared.turns.Turn.{Turn}
 use Rattle.changed_sets.proofs.fitting.do_turns_fit.Goals as goal

@@ -1,5 +1,5 @@
 -- The rows so far fit.
-use Rattle.confirmed_rows.proofs.FitLaws.{AllBelow}
+use Rattle.aging_cycles.proofs.FitLaws.{AllBelow}
 use Rattle.changed_sets.specs.Fitting.{FitWhere}
 use Rattle.changed_sets.specs.declared.turns.Turn.{Turn}
 use Rattle.changed_sets.proofs.fitting.do_turns_fit.Given as goal

@@ -1,5 +1,5 @@
 use Rattle.std.proofs.Common.{◌≡◌, ◌∙◌, Some, rules, subst, sym}
-use Rattle.confirmed_rows.specs.Fitting.{AreListedFit}
+use Rattle.aging_cycles.specs.Fitting.{AreListedFit}
 use Rattle.order_laws.proofs.TruthLaws.{same_some}
 use Rattle.changed_sets.proofs.fitting.fit_where.Goals as goal
 

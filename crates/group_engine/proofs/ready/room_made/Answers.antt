@@ -1,5 +1,5 @@
 use Rattle.std.proofs.Common.{rules}
-use Rattle.kept_journal.proofs.DraftLaws.{much_still}
+use Rattle.tier_journal.proofs.DraftLaws.{much_still}
 use Rattle.group_engine.proofs.ready.room_made.Goals as goal
 
 pub returns-in-Err-Limit-clause-ready : goal.returns-in-Err-Limit-clause-ready

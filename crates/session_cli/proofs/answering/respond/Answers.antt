@@ -1,6 +1,6 @@
 use Rattle.std.proofs.Common.{Some, None, ◌∙◌, refl, sym, subst, ◌≤◌, le_refl}
 use Rattle.cache_engine.proofs.RequestLaws.{line_kept}
-use Rattle.session_cli.proofs.OutputLaws.{splits_none}
+use Rattle.reply_lines.proofs.OutputLaws.{splits_none}
 use Rattle.session_cli.proofs.SlotLaws.{in_slots}
 use Rattle.session_cli.proofs.StopLaws.{disk_cause, stop_none}
 use Rattle.session_cli.proofs.WayLaws.{kept_once, stands_begun_at}

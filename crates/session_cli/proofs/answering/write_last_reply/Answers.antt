@@ -1,4 +1,4 @@
-use Rattle.session_cli.proofs.OutputLaws.{breaks_flushed, splits_flushed}
+use Rattle.reply_lines.proofs.OutputLaws.{breaks_flushed, splits_flushed}
 use Rattle.session_cli.proofs.answering.write_last_reply.Goals as goal
 
 pub returns-in-Ok-flush-clause-bytes : goal.returns-in-Ok-flush-clause-bytes

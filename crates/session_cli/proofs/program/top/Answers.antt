@@ -3,7 +3,7 @@ use Rattle.command_line.specs.declared.command.Command.TheVariants as command
 use Rattle.command_line.specs.declared.settings.Settings.{Settings}
 use Rattle.command_line.specs.declared.command.Command.{Command}
 use Rattle.command_line.specs.Words.{Asks, texts}
-use Rattle.script_commands.specs.declared.commands.End.TheVariants as end
+use Rattle.session_cli.specs.declared.commands.End.TheVariants as end
 use Rattle.std.proofs.KnownBytes.{Appends-nil}
 use Rattle.session_cli.specs.declared.serving.Status.TheVariants.{DiskFailed, NoMemory, SchemaFailed}
 use Rattle.session_cli.specs.Ends.{takes_none}

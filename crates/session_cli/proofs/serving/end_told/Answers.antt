@@ -1,6 +1,6 @@
 use Rattle.std.proofs.Common.{ℕ, List, ◌++◌, subst}
 use Rattle.session_cli.specs.Opening.{unopened_line}
-use Rattle.session_cli.specs.Output.{Splits}
+use Rattle.reply_lines.specs.Output.{Splits}
 use Rattle.session_cli.proofs.OpeningLaws.{tells_cut}
 use Rattle.session_cli.proofs.serving.end_told.Goals as goal
 

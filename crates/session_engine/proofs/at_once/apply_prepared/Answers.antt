@@ -1,7 +1,7 @@
 use Rattle.std.proofs.Common.{Err}
 use Rattle.stored_tier.proofs.OverLaws.{caused_stopped, caused_then}
 use Rattle.stored_tier.proofs.QuietLaws.{calm_refused}
-use Rattle.kept_journal.proofs.DraftLaws.{placed_so}
+use Rattle.tier_journal.proofs.DraftLaws.{placed_so}
 use Rattle.cache_tier.specs.Journals.{Prepares}
 use Rattle.propagators.proofs.CertainLaws.{bank_certain}
 use Rattle.session_engine.specs.Committing.{sealed_next}

@@ -1,6 +1,6 @@
 use Rattle.std.proofs.Common.{Ok}
 use Rattle.cache_tier.specs.Journals.{Numbers}
-use Rattle.kept_journal.proofs.DraftLaws.{placed_so}
+use Rattle.tier_journal.proofs.DraftLaws.{placed_so}
 use Rattle.propagators.proofs.CertainLaws.{bank_certain}
 use Rattle.session_engine.proofs.DoubtLaws.{ready_none}
 use Rattle.session_engine.proofs.PassedDone.{passed_ends}

@@ -1,5 +1,5 @@
 use Rattle.std.proofs.Common.{refl, sym, ◌∙◌}
-use Rattle.kept_journal.proofs.DraftLaws.{placed_so}
+use Rattle.tier_journal.proofs.DraftLaws.{placed_so}
 use Rattle.cache_tier.specs.Journals.{Commits}
 use Rattle.stored_tier.proofs.OverLaws.{caused_stopped, caused_then}
 use Rattle.stored_tier.proofs.QuietLaws.{calm_refused}

@@ -1,4 +1,0 @@
-pub mod EnteredRows
-pub mod FitLaws
-pub mod KeptRows
-pub mod RowsOf

@@ -1,8 +1,0 @@
-use Rattle.confirmed_rows.proofs.KeptRows.{stay_keyed, stay_verified}
-use Rattle.confirmed_rows.proofs.laws.kept_rows_law.Goals as goal
-
-pub returns-clause-keyed : goal.returns-clause-keyed
-returns-clause-keyed c = stay_keyed
-
-pub returns-clause-verified : goal.returns-clause-verified
-returns-clause-verified c = stay_verified

@@ -1,4 +1,0 @@
-pub mod DraftLaws
-pub mod WayLaws
-pub mod FlushLaws
-pub mod TurnLaws

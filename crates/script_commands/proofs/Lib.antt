@@ -1,4 +1,0 @@
-pub mod CountLaws
-pub mod RunningLaws
-pub mod BeginLaws
-pub mod BenchLaws

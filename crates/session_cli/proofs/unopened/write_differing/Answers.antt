@@ -1,0 +1,11 @@
+use Rattle.reply_lines.proofs.OutputLaws.{passes_failed, passes_then}
+use Rattle.session_cli.proofs.unopened.write_differing.Goals as goal
+
+pub returns-in_err-put-clause-bytes : goal.returns-in_err-put-clause-bytes
+returns-in_err-put-clause-bytes g c = passes_failed _ _ _ _ _ _ _ c.from_residual.ensures.0 c.in_err-put.ensures.bytes
+
+pub returns-in_err-put-2-clause-bytes : goal.returns-in_err-put-2-clause-bytes
+returns-in_err-put-2-clause-bytes g c = passes_then _ _ _ _ _ _ _ _ _ c.in_ok-put.ensures.bytes (passes_failed _ _ _ _ _ _ _ c.from_residual-in_err-put-2.ensures.0 c.in_err-put-2.ensures.bytes)
+
+pub returns-clause-bytes : goal.returns-clause-bytes
+returns-clause-bytes g c = passes_then _ _ _ _ _ _ _ _ _ c.in_ok-put.ensures.bytes (passes_then _ _ _ _ _ _ _ _ _ c.in_ok-put-2.ensures.bytes c.write_key_line.ensures.bytes)

@@ -1,8 +1,0 @@
-use Rattle.session_cli.proofs.OutputLaws.{passes_failed, passes_then}
-use Rattle.session_cli.proofs.values.write_behind_point.Goals as goal
-
-pub returns-in_err-put-clause-bytes : goal.returns-in_err-put-clause-bytes
-returns-in_err-put-clause-bytes g c = passes_failed _ _ _ _ _ _ _ c.from_residual.ensures.0 c.in_err-put.ensures.bytes
-
-pub returns-clause-bytes : goal.returns-clause-bytes
-returns-clause-bytes g c = passes_then _ _ _ _ _ _ _ _ _ c.in_ok-put.ensures.bytes c.write_last_digits.ensures.bytes

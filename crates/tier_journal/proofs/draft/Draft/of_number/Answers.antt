@@ -1,0 +1,8 @@
+use Rattle.std.proofs.Common.{refl}
+use Rattle.tier_journal.proofs.DraftLaws.{drafts, if_ok}
+use Rattle.tier_journal.proofs.draft.Draft.of_number.Goals as goal
+
+pub returns-in_ok-batch-in-Some-clause-draft : goal.returns-in_ok-batch-in-Some-clause-draft
+returns-in_ok-batch-in-Some-clause-draft c =
+    if_ok c.placed.result _ _
+    (λ draft fills schema. drafts schema c.in-Some.journal c.placed.new.journal _ _ draft _ fills c.behind-batch.ensures (c.in_ok-batch-in-Some.ensures schema) (c.if-not-can_number.ensures refl).bytes) c.placed.ensures.draft
