@@ -24,6 +24,7 @@ use Rattle.cache_engine.specs.Due.{IsDueCaused, stop_faults}
 use Rattle.cache_engine.specs.DueItems.{DoesItem, Footing, due_of, note_of, notes_since}
 use Rattle.tier_journal.specs.declared.journal.TierJournal.{TierJournal}
 use Rattle.tier_journal.specs.KeptOver.{is_broken}
+use Rattle.tier_journal.proofs.WayLaws.{kept_unless, kept_unless_told}
 use Rattle.stored_tier.specs.Performing.{IsCausedOver, IsStopCausedOver, KeepsSlots, PerformsOver, StandsFor}
 use Rattle.stored_tier.specs.Refreshing.{has_moment}
 use Rattle.stored_tier.specs.Sites.{IsAt}
@@ -144,7 +145,7 @@ module _ {D : Type 0} (state : D → SiteState) (possible : D → ℕ → Held �
         performs = λ w at stands apart keeps.
             let p = first.performs w at stands apart keeps in
             let there = p.stands refl in
-            let q = second.performs p.world p.at there (apart_still old mid (state b.disk) (state m.disk) w p.world first.groups first.cause.shares stands at there p.at apart) (p.keeps refl) in
+            let q = second.performs p.world p.at there (apart_still old mid (state b.disk) (state m.disk) w p.world first.groups first.cause.shares stands at there p.at apart) (p.keeps.over refl) in
             record {
               world = q.world;
               at = q.at;
@@ -229,7 +230,7 @@ module _ {D : Type 0} (state : D → SiteState) (possible : D → ℕ → Held �
       at = at;
       is = subst (λ l. item w w l None) (sym (since_self notes)) (idle w stands);
       stands = λ whole. stands;
-      keeps = λ whole. keeps;
+      keeps = kept_unless keeps;
     };
     order = sym (append-nil notes) ∙ ap (λ l. notes ++ l) (sym (since_self notes));
     cause = subst (λ l. IsDueCaused b.journal (state b.disk) (state b.disk) (due_of l None)) (sym (since_self notes)) (idle_caused b.journal (state b.disk));
@@ -364,7 +365,7 @@ module _ {D : Type 0} (state : D → SiteState) (possible : D → ℕ → Held �
               at = p.at;
               is = record { end = end; does = p.is; told = since; ends = ends };
               stands = λ whole. p.stands (whole_noted end (ap is_broken (sym ends) ∙ whole));
-              keeps = λ whole. p.keeps (whole_noted end (ap is_broken (sym ends) ∙ whole));
+              keeps = kept_unless_told (λ whole. whole_noted end (ap is_broken (sym ends) ∙ whole)) p.keeps;
             };
         order = told ∙ ap (λ l. earlier ++ l) (sym since);
         cause = subst (λ l. IsDueCaused b.journal (state b.disk) (state a.disk) (due_of l stop)) (sym since)

@@ -27,6 +27,7 @@ use Rattle.cache_engine.specs.Due.{IsDueCaused}
 use Rattle.cache_engine.specs.DueItems.{DoesItem, DueRest, Footing, KeepsSets, RunsCycles, due_at, due_of, is_due_at, note_of, round_is_due}
 use Rattle.outside.specs.Holding.{Held}
 use Rattle.tier_journal.specs.declared.journal.TierJournal.{TierJournal}
+use Rattle.tier_journal.proofs.WayLaws.{kept_unless}
 use Rattle.stored_tier.specs.Performing.{IsStopCausedOver, PerformsOver, StandsFor}
 use Rattle.stored_tier.specs.Refreshing.{has_moment, moment_in}
 use Rattle.outside.specs.Sites.{SiteState}
@@ -73,7 +74,7 @@ module _ {D : Type 0} (state : D → SiteState) (possible : D → ℕ → Held �
           at = at_still (state b.disk) w aged at;
           is = subst (λ l. DueAging w (with_tier aged w) l None) (sym (since_self notes)) (refl, refl, refl);
           stands = λ whole. runs.ages w stands;
-          keeps = λ whole. keeps_tier state possible b.disk b.journal w aged refl keeps;
+          keeps = kept_unless (keeps_tier state possible b.disk b.journal w aged refl keeps);
         };
     order = sym (append-nil notes) ∙ ap (λ l. notes ++ l) (sym (since_self notes));
     cause = subst (λ l. IsDueCaused b.journal (state b.disk) (state b.disk) (due_of l None)) (sym (since_self notes)) (idle_caused b.journal (state b.disk));

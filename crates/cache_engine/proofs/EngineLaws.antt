@@ -18,6 +18,7 @@ use Rattle.outside.specs.Holding.{Held}
 use Rattle.propagators.specs.Certainty.{KeepsCertain}
 use Rattle.tier_journal.specs.declared.journal.TierJournal.{TierJournal}
 use Rattle.tier_journal.specs.KeptOver.{is_broken}
+use Rattle.tier_journal.proofs.WayLaws.{kept_unless_told}
 use Rattle.cache_tier.specs.TierStates.{Session}
 use Rattle.stored_tier.specs.Performing.{Executes, ExecutesUnwritten, PerformsIn, PerformsInOver, PerformsOver, StandsFor, StaysWritten, reply_of}
 use Rattle.stored_tier.proofs.OverLaws.{over_so}
@@ -98,7 +99,7 @@ module _ {D : Type 0} (state : D → SiteState) (possible : D → ℕ → Held �
       → LeadsOver state possible old was new doubt k k' d d' stop one → LeadsOver state possible old was new doubt k k' d d' told other
   led old new was doubt k k' d d' stop told one other whole so p w at left apart keeps =
       let it = p w at left apart keeps in
-      record { world = it.world; at = it.at; is = so w it.world left it.is; left = λ same. it.left (whole same); keeps = λ same. it.keeps (whole same) }
+      record { world = it.world; at = it.at; is = so w it.world left it.is; left = λ same. it.left (whole same); keeps = kept_unless_told whole it.keeps }
 
 -- THE TIER OF A WORLD IN WHICH IT WAS LEFT SO
 
@@ -179,7 +180,7 @@ module _ {D : Type 0} (state : D → SiteState) (possible : D → ℕ → Held �
       → LeadsOver state possible t was new None b.journal a.journal b.disk a.disk stop (λ w w'. DueWork w w' notes stop)
   rest_led t mid new was b m a told notes stop first second w at left apart keeps =
       let p = first w at left apart keeps in
-      let q = second.performs p.world p.at (p.left refl) (still_unshared w p.world (doubt_keeps w.tier.doubt w p.world told None p.is) apart) (p.keeps refl) in
+      let q = second.performs p.world p.at (p.left refl) (still_unshared w p.world (doubt_keeps w.tier.doubt w p.world told None p.is) apart) (p.keeps.over refl) in
       record {
         world = q.world;
         at = q.at;

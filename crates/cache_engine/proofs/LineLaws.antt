@@ -46,6 +46,7 @@ use Rattle.cache_engine.proofs.DueLaws.{KeepsWho, asked_keeps, due_keeps, labels
 use Rattle.cache_engine.proofs.EngineLaws.{ended, led, led_none, left_stored}
 use Rattle.session_engine.specs.Doubting.{EndsInOver, EndsOver, IsLeft, LeadsOver}
 use Rattle.tier_journal.specs.Ways.{HasBecome}
+use Rattle.tier_journal.proofs.WayLaws.{kept_unless}
 use Rattle.cache_engine.proofs.StillLaws.{asked_journal, console_journal, over_grown, over_still, quiet_still}
 use Rattle.session_engine.specs.declared.doubt.Doubt.{Doubt}
 use Rattle.cache_engine.proofs.WantLaws.{told_as}
@@ -57,7 +58,7 @@ module _ {D : Type 0} (state : D → SiteState) (possible : D → ℕ → Held �
       → LeadsOver state possible old was mid None k n before between None one → EndsOver state possible mid new doubt n l between behind stop other → LeadsOver state possible old was new doubt k l before behind stop both
   then_led old mid new was doubt k n l before between behind stop one other both same joins p q w at left unshared keeps =
       let d = p w at left unshared keeps in
-      let e = q d.world d.at (d.left refl) (still_unshared w d.world (same w d.world d.is) unshared) (d.keeps refl) in
+      let e = q d.world d.at (d.left refl) (still_unshared w d.world (same w d.world d.is) unshared) (d.keeps.over refl) in
       record { world = e.world; at = e.at; is = joins w d.world e.world d.is e.is; left = e.left; keeps = e.keeps }
 
 -- SESSIONS
@@ -281,7 +282,7 @@ module _ {D : Type 0} (state : D → SiteState) (possible : D → ℕ → Held �
 module _ {D : Type 0} (state : D → SiteState) (possible : D → ℕ → Held → Type 0) where
   -- nothing is done
   pub left_here : (t : Stored) (was : Option Doubt) (k : Option TierJournal) (d : D) (stop : Option Reply) (does : World → World → Type 0) → ((w : World) → IsLeft t was w → does w w) → LeadsOver state possible t was t was k k d d stop does
-  left_here t was k d stop does so w at left unshared keeps = record { world = w; at = at; is = so w left; left = λ whole. left; keeps = λ whole. keeps }
+  left_here t was k d stop does so w at left unshared keeps = record { world = w; at = at; is = so w left; left = λ whole. left; keeps = kept_unless keeps }
 
   pub undone : (t : Stored) (was : Option Doubt) (k : Option TierJournal) (d : D) (base : ℕ) (l : Line) (reply : Reply) → is_undone l ≡ true → reply ≡ only (No (wrong_at 0)) → LeadsOver state possible t was t was k k d d (Some reply) (λ w w'. Heeds base (Says l) w w' reply)
   undone t was k d base l reply is e =

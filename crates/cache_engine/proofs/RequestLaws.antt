@@ -8,6 +8,7 @@ use Rattle.row_types.specs.declared.rule.Refused.TheVariants as refused
 use Rattle.outside.specs.Holding.{Held}
 use Rattle.tier_journal.specs.declared.journal.TierJournal.{TierJournal}
 use Rattle.tier_journal.specs.KeptOver.{KeepsOver, is_broken}
+use Rattle.tier_journal.proofs.WayLaws.{kept_unless}
 use Rattle.cache_tier.specs.Worlds.{IsUnshared, World}
 use Rattle.cache_engine.proofs.JournalKept.{led_kept}
 use Rattle.sql_subset.specs.Lines as line
@@ -52,7 +53,7 @@ module _ {D : Type 0} (state : D → SiteState) (possible : D → ℕ → Held �
     at = at;
     is = (said, says w, λ whole. counted law base said w w reply k (state d) (state d) at at whole (refusal_caused k (state d) r reply e) (heeds w), heeds w);
     left = λ whole. left;
-    keeps = λ whole. keeps;
+    keeps = kept_unless keeps;
   }
 
   pub long_line : HeedLeads → (t : Stored) (was : Option Doubt) (k : Option TierJournal) (d : D) (base : ℕ) (bytes : List ℕ) (reply : Reply) → is_long bytes ≡ true → reply ≡ reply_to (refused.Rule (past limit.Line)) → Stays t was k d base bytes (Some reply)
@@ -66,7 +67,7 @@ module _ {D : Type 0} (state : D → SiteState) (possible : D → ℕ → Held �
     at = at;
     is = (Silent, inl (said_so bytes line.Silent short means), (refl, refl));
     left = λ whole. left;
-    keeps = λ whole. keeps;
+    keeps = kept_unless keeps;
   }
 
   pub misread_line : HeedLeads → (t : Stored) (was : Option Doubt) (k : Option TierJournal) (d : D) (base : ℕ) (bytes : List ℕ) (why : ParseError) (reply : Reply) → is_long bytes ≡ false → line.Answers bytes (Err why) → reply ≡ reply_to (misread why) → Stays t was k d base bytes (Some reply)
@@ -105,7 +106,7 @@ module _ {D : Type 0} (state : D → SiteState) (possible : D → ℕ → Held �
         at = it.at;
         is = it.is;
         left = it.left;
-        keeps = λ whole. led_kept w.journal it.world.journal (law base w it.world (Says l) reply it.is).journal ∙ unkept;
+        keeps = kept_unless (led_kept w.journal it.world.journal (law base w it.world (Says l) reply it.is).journal ∙ unkept);
       }
 
 -- whether one was kept
@@ -134,7 +135,7 @@ goes_on state possible old new d d' base bytes reply caused none goes w at stand
       left = record {
         left = it.left whole;
         journal = none stands.journal;
-        unkept = subst (λ k. KeepsOver state possible d' k it.world) (none stands.journal) (it.keeps whole);
+        unkept = subst (λ k. KeepsOver state possible d' k it.world) (none stands.journal) (it.keeps.over whole);
       };
     }
 

@@ -30,6 +30,7 @@ use Rattle.stored_tier.proofs.WayLaws.{at_history_of, grown_leaves}
 use Rattle.session_engine.specs.Doubting.{Leads, LeadsOver}
 use Rattle.session_engine.specs.declared.doubt.Doubt as kept
 use Rattle.tier_journal.specs.Ways.{HasBecome}
+use Rattle.tier_journal.proofs.WayLaws.{kept_unless}
 
 -- the journal and the schema stay
 
@@ -145,7 +146,7 @@ module _ {D : Type 0} (state : D → SiteState) (possible : D → ℕ → Held �
         at = it.at;
         is = it.is;
         stands = λ whole. it.stands;
-        keeps = λ whole. keeps_grown k d d' w it.world keeps certain (still w it.world it.is) to it.at;
+        keeps = kept_unless (keeps_grown k d d' w it.world keeps certain (still w it.world it.is) to it.at);
       }
 
   -- a journal to which nothing was done
@@ -172,5 +173,5 @@ module _ {D : Type 0} (state : D → SiteState) (possible : D → ℕ → Held �
         at = it.at;
         is = it.is;
         left = λ whole. it.left;
-        keeps = λ whole. keeps_called state possible k d d' w it.world keeps certain same.journal same.schema it.at;
+        keeps = kept_unless (keeps_called state possible k d d' w it.world keeps certain same.journal same.schema it.at);
       }

@@ -4,9 +4,9 @@ use Rattle.table_state.specs.declared.operation.Op.{Op}
 use Rattle.cache_tier.specs.declared.reply.Reply.{Reply}
 use Rattle.cache_tier.specs.WayFacts.{EarlierOnTheWay, FlushLeads, IsLed, LaterOnTheWay, NoteLeads, RotateLeads, WaysGoOn}
 use Rattle.cache_tier.specs.JournalWays.{Beginning, GoesOn, IsFront, IsOnTheWay, Leads, Renewal, beginning_in, beginning_of, first_of, given}
-use Rattle.cache_tier.specs.JournalSteps.{Failing, Flushed, FlushesKept, NotesKept, Whole, journal_behind, name_sizes}
+use Rattle.cache_tier.specs.JournalSteps.{FlushesKept, NotesKept, name_sizes}
 use Rattle.cache_tier.specs.Journals.{Journal, JournalEntry, Stretch, Way, flushed_batch, on_the_way, passed_by}
-use Rattle.cache_tier.specs.Rotations.{Broken, Kept, Renewed, Rotation, journal_after, slot_entries}
+use Rattle.cache_tier.specs.Rotations.{Broken, Kept, Renewed, Rotation, journal_after, renewed, slot_entries}
 use Rattle.cache_tier.specs.Worlds.{OnlyWhere, Stage, World}
 
 nil_behind : (xs : List JournalEntry) → xs ≡ xs ++ []
@@ -93,11 +93,7 @@ batch name until j entries = by (j.tail ++ entries) refl
     }
 
 pub kept_flush_leads : (entries : List JournalEntry) (w w' : World) (stop : Option Reply) → FlushesKept entries w w' stop → IsLed w.journal w'.journal
-kept_flush_leads entries w w' stop f = record { renewals = []; leads = subst (λ j. GoesOn w.journal j) (sym f.journal) (by f.result) }
-  where
-    by : (r : Flushed) → GoesOn w.journal (journal_behind r w entries)
-    by Whole = batch (name_sizes w) (length w.history) w.journal entries
-    by Failing = record { kept = refl; slot = refl; more = entries; grows = sym (append_assoc w.journal.flushed w.journal.tail entries); flushed = omega arith; way = refl }
+kept_flush_leads entries w w' stop f = record { renewals = []; leads = subst (λ j. GoesOn w.journal j) (sym f.journal) (batch (name_sizes w) (length w.history) w.journal entries) }
 
 -- a stage that is done where a journal is kept
 where_kept : (kept : Bool) (stage : Stage) (w w' : World) (stop : Option Reply) → (stage w w' stop → IsLed w.journal w'.journal) → OnlyWhere kept stage w w' stop → IsLed w.journal w'.journal
@@ -113,13 +109,17 @@ kept_note_leads e w w' stop n = record { renewals = []; leads = subst (λ j. Goe
 pub note_leads : NoteLeads
 note_leads e w w' stop n = where_kept w.journal.kept (NotesKept e) w w' stop (kept_note_leads e w w' stop) n
 
+-- a slot that is begun anew
+renewed_leads : (w : World) → IsLed w.journal (renewed w)
+renewed_leads w = record { renewals = record { before = w.journal; begun = renewed w } ∷ []; leads = (stays w.journal, refl, refl, refl, began w.journal.flushed (slot_entries w.tier) (length w.history) w.journal.way, stays (renewed w)) }
+
 pub rotate_leads : RotateLeads
 rotate_leads w w' stop r = by r.result r.journal
   where
     by : (x : Rotation) → w'.journal ≡ journal_after x w → IsLed w.journal w'.journal
-    by Renewed e = subst (λ j. IsLed w.journal j) (sym e) (record { renewals = record { before = w.journal; begun = journal_after Renewed w } ∷ []; leads = (stays w.journal, refl, refl, refl, began w.journal.flushed (slot_entries w.tier) (length w.history) w.journal.way, stays (journal_after Renewed w)) })
+    by Renewed e = subst (λ j. IsLed w.journal j) (sym e) (renewed_leads w)
     by Kept e = subst (λ j. IsLed w.journal j) (sym e) (record { renewals = []; leads = stays w.journal })
-    by Broken e = subst (λ j. IsLed w.journal j) (sym e) (record { renewals = []; leads = stays w.journal })
+    by Broken e = subst (λ j. IsLed w.journal j) (sym e) (renewed_leads w)
 
 -- whether a journal is kept stays on each way
 pub kept_on_way : (a b : Journal) (renewals : List Renewal) → Leads a renewals b → b.kept ≡ a.kept

@@ -3,7 +3,7 @@
 
 use Rattle.tier_base.specs.declared.code.Code.TheVariants as code
 use Rattle.tier_base.specs.declared.limit.Limit.TheVariants as limit
-use Rattle.std.specs.Prelude.{◌≡◌, ℕ, ◌≤◌, List, [], ◌++◌, Option, Some, None, false, length, slice_get, Bool, true, ◌&&◌, ◌∷◌, nat_lt}
+use Rattle.std.specs.Prelude.{◌≡◌, ℕ, ◌≤◌, List, [], Option, Some, None, false, length, slice_get, Bool, true, ◌&&◌, ◌∷◌, nat_lt}
 use Rattle.std.specs.Bool.{MatchBool}
 use Rattle.row_types.specs.declared.rule.Rule.{Rule}
 use Rattle.table_defs.specs.declared.definition.TableDef.{TableDef}
@@ -30,7 +30,7 @@ name_sizes w op = name_size w.tier.schema op
 abbrev pub journal_full : World → List JournalEntry → Bool
 journal_full w entries = w.journal.kept && is_full (name_sizes w) w.journal entries
 
--- the journal once the tail and these entries are flushed
+-- the journal once the tail and these entries are flushed, whatever way it has
 abbrev pub journal_with : World → List JournalEntry → Journal
 journal_with w entries = flushed_with (name_sizes w) entries w.journal
 
@@ -39,21 +39,22 @@ pub data Flushed : Type 0 where
   Whole : Flushed
   Failing : Flushed
 
-abbrev pub journal_behind : Flushed → World → List JournalEntry → Journal
-journal_behind Whole w entries = on_the_way (length w.history) w.journal (journal_with w entries)
-journal_behind Failing w entries = record w.journal { tail = w.journal.tail ++ entries }
+-- the same, with the way that led there
+abbrev pub journal_behind : World → List JournalEntry → Journal
+journal_behind w entries = on_the_way (length w.history) w.journal (journal_with w entries)
 
 abbrev pub flush_stop : Flushed → Option Reply
 flush_stop Whole = None
 flush_stop Failing = Some (faulty code.JournalFault)
 
--- The tail and these entries are flushed as one batch, or the call failed, and they may be there or not. The tier,
--- the history and the bank's count stay.
+-- The tail and these entries are flushed as one batch, or the call failed, and they may be there or not: what the slots
+-- give is a point of the journal's way, which has what they gave before. The tier, the history and the bank's count
+-- stay.
 pub record FlushesKept (entries : List JournalEntry) (w w' : World) (stop : Option Reply) : Type 0 where
   pub result : Flushed
   pub tier : w'.tier ≡ w.tier
   pub history : w'.history ≡ w.history
-  pub journal : w'.journal ≡ journal_behind result w entries
+  pub journal : w'.journal ≡ journal_behind w entries
   pub bank : w'.bank_faults ≡ w.bank_faults
   pub disk : w.disk_faults ≤ w'.disk_faults
   pub moment : w.moment ≤ w'.moment

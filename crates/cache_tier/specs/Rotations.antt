@@ -23,18 +23,21 @@ slot_entries t =
     ++ (map (λ g. SetsLoaded g.def.name true) (filter (λ g. g.loaded) t.groups)
     ++ map Commits t.unsettled)))
 
--- the journal is begun anew, or stays: where no generation or batch fits, memory was wanting, or a disk call failed,
--- which ends the run
+-- The journal is begun anew, or stays: where no generation or batch fits, or memory was wanting. Or a disk call failed,
+-- which ends the run; then what the slots give is a point of the journal's way, which has what they gave before.
 pub data Rotation : Type 0 where
   Renewed : Rotation
   Kept : Rotation
   Broken : Rotation
 
+-- the journal that is begun anew, with the way that led there
+abbrev pub renewed : World → Journal
+renewed w = on_the_way (length w.history) w.journal (rotated (name_sizes w) (slot_entries w.tier) w.journal)
+
 abbrev pub journal_after : Rotation → World → Journal
-journal_after Renewed w =
-    on_the_way (length w.history) w.journal (rotated (name_sizes w) (slot_entries w.tier) w.journal)
+journal_after Renewed w = renewed w
 journal_after Kept w = w.journal
-journal_after Broken w = w.journal
+journal_after Broken w = renewed w
 
 abbrev pub rotation_stop : Rotation → Option Reply
 rotation_stop Renewed = None

@@ -14,6 +14,7 @@ use Rattle.outside.specs.Sites.{SiteState}
 use Rattle.propagators.specs.Certainty.{KeepsCertain}
 use Rattle.propagators.proofs.CertainLaws.{same_certain}
 use Rattle.tier_journal.specs.declared.journal.TierJournal.{TierJournal}
+use Rattle.tier_journal.proofs.WayLaws.{kept_unless}
 use Rattle.open_sessions.specs.Lookups.{of_label}
 use Rattle.open_sessions.specs.Opening.{seen_all}
 use Rattle.cache_tier.specs.declared.reply.Reply.{Reply}
@@ -59,7 +60,7 @@ module _ {D : Type 0} (state : D → SiteState) (possible : D → ℕ → Held �
         at = second.at;
         is = inl (record { mid = m; stop = None; first = subst (λ o. LoadsWanted o w m None) (wants w.tier stands.stored) loaded; next = second.is.0 });
         stands = λ whole. second.stands;
-        keeps = λ whole. keeps_called state possible k' dm dm m second.world (first.keeps refl) (same_certain state possible dm) second.is.1.journal second.is.1.schema second.at;
+        keeps = kept_unless (keeps_called state possible k' dm dm m second.world (first.keeps.over refl) (same_certain state possible dm) second.is.1.journal second.is.1.schema second.at);
       }
 
   -- a write
@@ -75,7 +76,7 @@ module _ {D : Type 0} (state : D → SiteState) (possible : D → ℕ → Held �
         at = second.at;
         is = inl (record { mid = m; stop = None; first = subst (λ o. LoadsWanted o w m None) (wants w.tier stands.stored) loaded; next = second.is.0 });
         stands = λ whole. second.stands;
-        keeps = λ whole. keeps_called state possible k' dm d' m second.world (first.keeps refl) certain second.is.1.journal second.is.1.schema second.at;
+        keeps = kept_unless (keeps_called state possible k' dm d' m second.world (first.keeps.over refl) certain second.is.1.journal second.is.1.schema second.at);
       }
 
 -- the load ended the line
@@ -105,7 +106,7 @@ module _ {D : Type 0} (state : D → SiteState) (possible : D → ℕ → Held �
 -- memory was wanting before
 module _ {D : Type 0} (state : D → SiteState) (possible : D → ℕ → Held → Type 0) (t : Stored) (k : Option TierJournal) (d : D) (id : SessionId) where
   pub select_wanting : (query : ResolvedQuery) → PerformsInOver state possible t t k k d d id (SelectsLoaded query) (Err refused.Memory)
-  select_wanting query s has w at stands apart keeps = record { world = w; at = at; is = inr (refl, refl); stands = λ whole. stands; keeps = λ whole. keeps }
+  select_wanting query s has w at stands apart keeps = record { world = w; at = at; is = inr (refl, refl); stands = λ whole. stands; keeps = kept_unless keeps }
 
   pub write_wanting : (change : Change) → PerformsInOver state possible t t k k d d id (WritesLoaded change) (Err refused.Memory)
-  write_wanting change s has w at stands apart keeps = record { world = w; at = at; is = inr (refl, refl); stands = λ whole. stands; keeps = λ whole. keeps }
+  write_wanting change s has w at stands apart keeps = record { world = w; at = at; is = inr (refl, refl); stands = λ whole. stands; keeps = kept_unless keeps }

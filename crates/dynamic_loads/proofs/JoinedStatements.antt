@@ -11,6 +11,7 @@ use Rattle.sql_query.specs.declared.query.Query.{Query}
 use Rattle.sql_query.specs.declared.write.Write.{Write}
 use Rattle.sql_subset.specs.declared.stmt.Stmt.TheVariants as statement
 use Rattle.tier_journal.specs.declared.journal.TierJournal.{TierJournal}
+use Rattle.tier_journal.proofs.WayLaws.{kept_unless}
 use Rattle.cache_tier.specs.declared.reply.Reply.{Reply}
 use Rattle.cache_tier.specs.Routes as route
 use Rattle.cache_tier.specs.TierStates.{Session, Tier}
@@ -71,7 +72,7 @@ module _ {D : Type 0} (state : D → SiteState) (possible : D → ℕ → Held �
         at = it.at;
         is = query.executes_routed s q w it.world resolved route.PassedOn (reply_of result) (routed w.tier s stands.stored has) it.is.0;
         stands = λ whole. it.stands;
-        keeps = λ whole. keeps_called state possible k d d' w it.world keeps certain it.is.1.journal it.is.1.schema it.at;
+        keeps = kept_unless (keeps_called state possible k d d' w it.world keeps certain it.is.1.journal it.is.1.schema it.at);
       }
 
   -- a query that is refused before
@@ -81,5 +82,5 @@ module _ {D : Type 0} (state : D → SiteState) (possible : D → ℕ → Held �
     at = at;
     is = query.executes_unrouted s q w e (told w.tier s stands.stored has);
     stands = λ whole. stands;
-    keeps = λ whole. keeps;
+    keeps = kept_unless keeps;
   }

@@ -79,7 +79,7 @@ module _ {D : Type 0} (state : D → SiteState) (possible : D → ℕ → Held �
       let m : World = first.world in
       let same = round_keeps w m first.is in
       let apart_then : IsUnshared m = (λ t e. ap (λ gs. is_table_of is_writethrough gs t) same.groups ∙ apart t (ap (λ l. is_shared l t) (sym same.shared) ∙ e)) in
-      let second = over_quiet state possible settled new k' k' dm d' stop (λ w w'. ReachesInto place want w w' stop × StaysWritten w w') (stays_kept k') certain (λ v v' is. is.1) reaches m first.at (first.stands refl) apart_then (first.keeps refl) in
+      let second = over_quiet state possible settled new k' k' dm d' stop (λ w w'. ReachesInto place want w w' stop × StaysWritten w w') (stays_kept k') certain (λ v v' is. is.1) reaches m first.at (first.stands refl) apart_then (first.keeps.over refl) in
       record { world = second.world; at = second.at; is = record { mid = m; stop = None; first = first.is; next = second.is.0 }; stands = second.stands; keeps = second.keeps }
 
   -- the round ended the line

@@ -48,6 +48,7 @@ use Rattle.tier_journal.specs.Drafts.{StaysKept}
 use Rattle.tier_journal.specs.KeptOver.{KeepsOver}
 use Rattle.propagators.specs.Certainty.{KeepsCertain}
 use Rattle.tier_journal.specs.declared.journal.TierJournal.{TierJournal}
+use Rattle.tier_journal.proofs.WayLaws.{kept_unless}
 use Rattle.outside.specs.Holding.{Held}
 use Rattle.stored_tier.proofs.OverLaws.{keeps_called, keeps_stays, keeps_tier}
 use Rattle.tier_base.specs.declared.limit.Limit.TheVariants as limit
@@ -152,7 +153,7 @@ not_ready state possible t k k' d to place e stays is = λ w g at stands apart k
   at = at;
   is = inr (refl, ap (λ x. reply_of (Err x)) is);
   stands = λ whole. stands;
-  keeps = λ whole. keeps_stays state possible d k k' w stays keeps;
+  keeps = kept_unless (keeps_stays state possible d k k' w stays keeps);
 }
 
 -- the STATE alone
@@ -265,7 +266,7 @@ alone_full state possible t k d ready st place reply full told = λ w g at stand
   at = at;
   is = full_then state possible k d w ready (altered_entries g st) (Answers (state_answer place st)) reply keeps of full told;
   stands = λ whole. stands;
-  keeps = λ whole. keeps;
+  keeps = kept_unless keeps;
 }
 
 -- the STATE behind a refresh
@@ -359,7 +360,7 @@ module _ {D : Type 0} (state : D → SiteState) (possible : D → ℕ → Held �
       goes_on = inl (full_then state possible k mid r.world ready (altered_entries g st) (Answers (refreshed_state place st chosen n)) reply (keeps_read (Ok n) r) (ready_read (Ok n) r) full told);
     };
     stands = λ whole. r.stands;
-    keeps = λ whole. keeps_read (Ok n) r;
+    keeps = kept_unless (keeps_read (Ok n) r);
   }
 
   -- the call failed
@@ -369,7 +370,7 @@ module _ {D : Type 0} (state : D → SiteState) (possible : D → ℕ → Held �
     at = r.at;
     is = record { result = Err e; mid = r.world; call = r.call; tier = r.tier; goes_on = (refl, told) };
     stands = λ whole. r.stands;
-    keeps = λ whole. keeps_read (Err e) r;
+    keeps = kept_unless (keeps_read (Err e) r);
   }
 
 -- to each STATE

@@ -21,6 +21,7 @@ use Rattle.outside.specs.declared.site.Snapshot.{Snapshot}
 use Rattle.propagators.specs.Certainty.{KeepsCertain}
 use Rattle.tier_journal.specs.KeptOver.{DiskIsCaused, KeepsOver, is_broken, over_disk}
 use Rattle.tier_journal.specs.declared.journal.TierJournal.{TierJournal}
+use Rattle.tier_journal.proofs.WayLaws.{kept_unless}
 use Rattle.order_laws.proofs.TruthLaws.{both_true, never_both}
 use Rattle.slot_rows.specs.SlotKeys.{RowsHeld}
 use Rattle.group_catalog.specs.Catalogs.{groups_in}
@@ -129,7 +130,7 @@ module _ {D : Type 0} (state : D → SiteState) (possible : D → ℕ → Held �
     at = r.at;
     is = record { result = Ok n; mid = r.world; call = r.call; tier = r.tier; goes_on = inr (refl, ap (λ y. Some y) is) };
     stands = λ whole. r.stands;
-    keeps = λ whole. keeps_mid;
+    keeps = kept_unless keeps_mid;
   }
 
   -- 119 of the journal
@@ -144,7 +145,7 @@ module _ {D : Type 0} (state : D → SiteState) (possible : D → ℕ → Held �
       next = (refl, ap (λ y. Some y) is);
     });
     stands = λ whole. r.stands;
-    keeps = λ whole. keeps_mid;
+    keeps = kept_unless keeps_mid;
   }
 
   -- the instance comes
@@ -259,7 +260,7 @@ module _ {D : Type 0} (state : D → SiteState) (possible : D → ℕ → Held �
             at = record { there = at1.there; told = at1.told; history = at1.history; faults = at1.faults; moment = at1.moment; shared = at1.shared };
             is = told_so (with_tier (joined_tier place g want n r.world) w1) None (record { mid = w1; stop = None; first = x.is; next = (refl, refl) });
             stands = λ whole. stands_written new (with_tier (joined_tier place g want n r.world) r.world) x.journal x.faults (state last).moment stands_joined;
-            keeps = λ whole. keeps_tier state possible last k' w1 (joined_tier place g want n r.world) refl (x.keeps refl);
+            keeps = kept_unless (keeps_tier state possible last k' w1 (joined_tier place g want n r.world) refl (x.keeps.over refl));
           }
 
       failed : (fault : Reply) → Flushes state possible k k' d' last ready (Some fault) → IsPerformedOver state possible new k' last (Some fault) (λ w'. BringsNoted place g want w w' (Some fault))
@@ -272,7 +273,7 @@ module _ {D : Type 0} (state : D → SiteState) (possible : D → ℕ → Held �
             at = at_written state possible k' d' last r.world (Some fault) (FlushesSome (state_entries g)) r.at x f.cause.bank f.cause.shared;
             is = told_so w1 (Some fault) (record { mid = w1; stop = Some fault; first = x.is; next = (refl, refl) });
             stands = λ whole. absurd (never_both (is_broken (Some fault)) broken whole);
-            keeps = λ whole. absurd (never_both (is_broken (Some fault)) broken whole);
+            keeps = x.keeps;
           }
 
       pub done_behind : (stop : Option Reply) → WritesReady state possible k k' d' last ready stop → DiskIsCaused k (state d') (state last) stop → IsPerformedOver state possible new k' last stop (λ w'. BringsNoted place g want w w' stop)

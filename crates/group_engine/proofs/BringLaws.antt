@@ -21,6 +21,7 @@ use Rattle.outside.specs.declared.site.Snapshot.{Snapshot}
 use Rattle.propagators.specs.Certainty.{KeepsCertain}
 use Rattle.tier_journal.specs.KeptOver.{DiskIsCaused, KeepsOver, is_broken, over_disk}
 use Rattle.tier_journal.specs.declared.journal.TierJournal.{TierJournal}
+use Rattle.tier_journal.proofs.WayLaws.{kept_unless}
 use Rattle.order_laws.proofs.TruthLaws.{both_true, never_both}
 use Rattle.slot_rows.specs.SlotKeys.{RowsHeld}
 use Rattle.group_catalog.specs.Catalogs.{groups_in}
@@ -145,7 +146,7 @@ module _ {D : Type 0} (state : D → SiteState) (possible : D → ℕ → Held �
     at = at;
     is = failing place g want w w Memory reply (no_call w) refl is;
     stands = λ whole. stands;
-    keeps = λ whole. keeps;
+    keeps = kept_unless keeps;
   }
 
   pub bring_failed : (d d' : D) (e : BankError) (reply : Reply) → reply ≡ bank_fault e → KeepsCertain state possible d d' → (w : World) → KeepsOver state possible d k w → IsRead t (state d') (Err e) w → IsPerformedOver state possible t k d' (Some reply) (λ w'. BringsNoted place g want w w' (Some reply))
@@ -154,5 +155,5 @@ module _ {D : Type 0} (state : D → SiteState) (possible : D → ℕ → Held �
     at = r.at;
     is = failing place g want w r.world e reply r.call r.tier is;
     stands = λ whole. r.stands;
-    keeps = λ whole. keeps_called state possible k d d' w r.world keeps certain r.call.journal (ap (λ (t : Tier). t.schema) r.tier) r.at;
+    keeps = kept_unless (keeps_called state possible k d d' w r.world keeps certain r.call.journal (ap (λ (t : Tier). t.schema) r.tier) r.at);
   }

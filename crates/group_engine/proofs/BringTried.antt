@@ -18,6 +18,7 @@ use Rattle.cache_tier.specs.Wants.{Want}
 use Rattle.cache_tier.specs.Worlds.{World, faulty, only}
 use Rattle.tier_journal.specs.KeptOver.{DiskIsCaused, KeepsOver}
 use Rattle.tier_journal.proofs.FlushLaws.{still_over}
+use Rattle.tier_journal.proofs.WayLaws.{kept_unless}
 use Rattle.stored_tier.specs.declared.tier.Tier.{Tier as Stored}
 use Rattle.stored_tier.specs.Performing.{IsCalm, IsCausedOver, IsStopCausedOver, PerformsOver, StandsFor}
 use Rattle.stored_tier.specs.Refreshing.{is_off}
@@ -81,7 +82,7 @@ module _ {D : Type 0} (state : D → SiteState) (possible : D → ℕ → Held �
     at = at;
     is = inr (refl, ap (λ y. Some y) is);
     stands = λ whole. still w stands;
-    keeps = λ whole. keeps_stays state possible d k k' w stays keeps;
+    keeps = kept_unless (keeps_stays state possible d k k' w stays keeps);
   }
 
   -- with what was made ready

@@ -51,6 +51,7 @@ use Rattle.group_engine.specs.Ready.{AnswersBehind, IsReadyFor, is_full_ready}
 use Rattle.group_engine.proofs.ReadyLaws.{full_ready, kept_here, refused_over, wanting_over}
 use Rattle.tier_journal.specs.Drafts.{StaysKept}
 use Rattle.tier_journal.specs.declared.journal.TierJournal.{TierJournal}
+use Rattle.tier_journal.proofs.WayLaws.{kept_unless}
 use Rattle.outside.specs.Holding.{Held}
 use Rattle.stored_tier.proofs.OverLaws.{keeps_stays}
 use Rattle.slot_rows.specs.SlotKeys.{RowsHeld}
@@ -135,6 +136,12 @@ abbrev pub GroupLaw : Type 0
 GroupLaw =
     (w : World) (d : CreateGroup) (tree : Tree) → Stands w → IsNewGroup w (new_group w.tier.next w.tier.now d (defined_by w.tier.schema d tree)) → StaysShown w (with_tier (with_new_group d tree w.tier) w)
 
+-- a schema that is the same has the same root
+free_seen : (seen schema : List TableDef) (d : CreateGroup) (tree : Tree) → seen ≡ schema → is_free schema (defined_by schema d tree) ≡ true → is_read_only_kind d.kind ≡ false → foreign_key_in seen tree.root.table ≡ None
+free_seen seen schema d tree same free kind =
+    ap (λ defs. foreign_key_in defs tree.root.table) same
+    ∙ none_is (foreign_key_in schema tree.root.table) (sym (ap (λ b. b || is_none (foreign_key_in schema tree.root.table)) kind) ∙ free)
+
 -- the same of its tree
 pub record IsDefined (t : Stored) (d : CreateGroup) (tree : Tree) : Type 0 where
   pub writes : Bool
@@ -166,9 +173,7 @@ module _ (new_tables : HasNewTables) (writes_all : WritesAll) (apart : StandsApa
   writes_through e = sym (read_only_is coming) ∙ not_false (is_read_only coming) e
 
   root_free : is_writethrough coming ≡ true → foreign_key_in w.tier.schema tree.root.table ≡ None
-  root_free e =
-      ap (λ defs. foreign_key_in defs tree.root.table) schema
-      ∙ none_is (foreign_key_in t.schema tree.root.table) (sym (ap (λ b. b || is_none (foreign_key_in t.schema tree.root.table)) (writes_through e)) ∙ x.free)
+  root_free e = free_seen w.tier.schema t.schema d tree schema x.free (writes_through e)
 
   no_table : HasNoTableOf w.tier.groups coming
   no_table u c = sym (any_map (is_defined_on u) (λ (g : Group). g.def) w.tier.groups) ∙ new_tables w.tier.schema (definitions_of w.tier.groups) d tree accepted u c
@@ -230,6 +235,8 @@ module _ (new_tables : HasNewTables) (writes_all : WritesAll) (apart : StandsApa
     creates w' reply fits then = record {
       tree = tree;
       is = accepted.tree_of;
+      sound = ap (λ defs. is_sound defs tree) schema ∙ x.formed;
+      free = free_seen w.tier.schema t.schema d tree schema x.free;
       does = subst (λ o. Unless o (Then (Flushes entries) (Answers (define_answer d tree))) w w' reply) (sym (ap (λ b. broken_if b (past limit.JournalSlot)) fits)) (record {
         mid = then.mid;
         stop = then.stop;
@@ -287,11 +294,13 @@ module _ {D : Type 0} (state : D → SiteState) (possible : D → ℕ → Held �
     is = does_create s c w w reply (free w.tier s stands.stored has_session) (record {
       tree = def.tree;
       is = subst (λ (l : List TableDef). IsTreeOf (placed_tables l c) def.tree) (sym stands.stored.schema) x.tree_of;
+      sound = ap (λ (l : List TableDef). is_sound l def.tree) stands.stored.schema ∙ x.formed;
+      free = free_seen w.tier.schema t.schema c def.tree stands.stored.schema (defined_tree t c def x).free;
       does = subst (λ o. Unless o (Then (Flushes (Defines c (text_of c) ∷ [])) (Answers (define_answer c def.tree))) w w reply)
           (sym (ap (λ b. broken_if b (past limit.JournalSlot)) (full_ready state possible k d w ready (Defines c (text_of c) ∷ []) keeps (of w.tier.schema) refl ∙ full))) (refl, told);
     });
     stands = λ whole. stands;
-    keeps = λ whole. keeps;
+    keeps = kept_unless keeps;
   }
 
   -- a rule refuses it, or memory was wanting

@@ -41,6 +41,7 @@ use Rattle.group_engine.proofs.GroupRows.{same_there}
 use Rattle.table_defs.specs.declared.definition.TableDef.{TableDef}
 use Rattle.tier_journal.specs.Drafts.{StaysKept}
 use Rattle.tier_journal.specs.declared.journal.TierJournal.{TierJournal}
+use Rattle.tier_journal.proofs.WayLaws.{kept_unless}
 use Rattle.outside.specs.Holding.{Held}
 use Rattle.stored_tier.proofs.OverLaws.{keeps_stays}
 use Rattle.stored_tier.specs.Lists.{AreListed}
@@ -153,12 +154,12 @@ module _ {D : Type 0} (state : D → SiteState) (possible : D → ℕ → Held �
         at = at;
         is = inl (rest_so s g w w reply unlocked (full_then state possible k d w ready (Drops g.def.name ∷ []) (Answers (drop_answer g.def.name)) reply keeps ready_for full told));
         stands = λ whole. stands;
-        keeps = λ whole. keeps;
+        keeps = kept_unless keeps;
       }
 
   -- 111, or memory was wanting
   pub drop_refused : (t : Stored) (k : Option TierJournal) (d : D) (id : SessionId) (place : ℕ) (e : Refused) → ((a : Tier) (s : Session) (g : Group) → IsStoredAs t a → HasSession t id s → slice_get a.groups place ≡ Some g → IsRefusedBy (group_lock s.label a g) e) → DropsHere state possible t t k k d d id place (reply_of (Err e))
-  drop_refused t k d id place e is = λ s w g has at stands keeps there. record { world = w; at = at; is = by s w g e (is w.tier s g stands.stored has there); stands = λ whole. stands; keeps = λ whole. keeps }
+  drop_refused t k d id place e is = λ s w g has at stands keeps there. record { world = w; at = at; is = by s w g e (is w.tier s g stands.stored has there); stands = λ whole. stands; keeps = kept_unless keeps }
     where
       by : (s : Session) (w : World) (g : Group) (e : Refused) → IsRefusedBy (group_lock s.label w.tier g) e → Tries (DropsRest s g) w w (reply_of (Err e))
       by s w g (refused.Rule rule) told = inl (subst (λ o. Unless o (Then (FlushesSome (Drops g.def.name ∷ [])) (Answers (drop_answer g.def.name))) w w (only (No rule))) (sym told) (refl, refl))
@@ -170,7 +171,7 @@ module _ {D : Type 0} (state : D → SiteState) (possible : D → ℕ → Held �
     at = at;
     is = inr (refl, ap (λ x. reply_of (Err x)) is);
     stands = λ whole. stands_kept t new w stands kept;
-    keeps = λ whole. keeps_stays state possible d k k' w stays keeps;
+    keeps = kept_unless (keeps_stays state possible d k k' w stays keeps);
   }
 
   -- with what was made ready
@@ -233,7 +234,7 @@ went state possible t mid new k km k' d dm d' id name place result sound same fr
     let stands_mid = p.stands refl in
     let g = group_there t w.tier name place stands.stored called in
     let g1 = group_there mid p.world.tier name place stands_mid.stored (ap (λ c. place_called (groups_in c) name) same.catalog ∙ called) in
-    let q = drops s p.world g1.0 (session_same s has) p.at stands_mid (p.keeps refl) g1.1 in
+    let q = drops s p.world g1.0 (session_same s has) p.at stands_mid (p.keeps.over refl) g1.1 in
     let defs : g1.0.def ≡ g.0.def = same_def w.tier p.world.tier g.0 g1.0 stands.stored stands_mid.stored g.1 g1.1 in
     record {
       world = q.world;

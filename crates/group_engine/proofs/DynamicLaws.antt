@@ -25,6 +25,7 @@ use Rattle.outside.specs.declared.site.Snapshot.{Snapshot}
 use Rattle.propagators.specs.Certainty.{KeepsCertain}
 use Rattle.tier_journal.specs.KeptOver.{KeepsOver}
 use Rattle.tier_journal.specs.declared.journal.TierJournal.{TierJournal}
+use Rattle.tier_journal.proofs.WayLaws.{kept_unless}
 use Rattle.order_laws.proofs.TruthLaws.{both_true, never_both}
 use Rattle.slot_rows.specs.SlotKeys.{RowsHeld}
 use Rattle.group_catalog.specs.Catalogs.{groups_in}
@@ -239,7 +240,7 @@ module _ {D : Type 0} (state : D → SiteState) (possible : D → ℕ → Held �
   wanted true = record { result = Ok n; mid = r.world; call = r.call; tier = r.tier; goes_on = inr (refl, refl) }
 
   left_so : (reply : Reply) → ReadsDynamic refreshes x w r.world reply → IsPerformedOver state possible old k d' (Some reply) (λ w'. ReadsDynamic refreshes x w w' reply)
-  left_so reply is = record { world = r.world; at = r.at; is = is; stands = λ whole. r.stands; keeps = λ whole. keeps_mid }
+  left_so reply is = record { world = r.world; at = r.at; is = is; stands = λ whole. r.stands; keeps = kept_unless keeps_mid }
 
   pub dynamic_wanting : IsPerformedOver state possible old k d' (Some (faulty code.Memory)) (λ w'. ReadsDynamic refreshes x w w' (faulty code.Memory))
   dynamic_wanting = left_so (faulty code.Memory) (wanted refreshes)
@@ -446,7 +447,7 @@ dynamic_uncalled state possible t k d refreshes x w at stands keeps = record {
   at = at;
   is = failing refreshes x w w Memory (faulty code.Memory) (no_call w) refl refl;
   stands = λ whole. stands;
-  keeps = λ whole. keeps;
+  keeps = kept_unless keeps;
 }
 
 pub dynamic_failed : {D : Type 0} (state : D → SiteState) (possible : D → ℕ → Held → Type 0) (t : Stored) (k : Option TierJournal) (d d' : D) (refreshes : Bool) (x : Target) (e : BankError) (reply : Reply) → reply ≡ bank_fault e → KeepsCertain state possible d d' → (w : World) → KeepsOver state possible d k w → IsRead t (state d') (Err e) w
@@ -456,7 +457,7 @@ dynamic_failed state possible t k d d' refreshes x e reply is certain w keeps r 
   at = r.at;
   is = failing refreshes x w r.world e reply r.call r.tier is;
   stands = λ whole. r.stands;
-  keeps = λ whole. keeps_called state possible k d d' w r.world keeps certain r.call.journal (ap (λ (t : Tier). t.schema) r.tier) r.at;
+  keeps = kept_unless (keeps_called state possible k d d' w r.world keeps certain r.call.journal (ap (λ (t : Tier). t.schema) r.tier) r.at);
 }
 
 -- STATE alone changes of a dynamic READONLY group

@@ -82,7 +82,7 @@ module _ {D : Type 0} (state : D → SiteState) (possible : D → ℕ → Held �
       let m : World = first.world in
       let same = round_keeps w m first.is in
       let apart_then : IsUnshared m = (λ t e. ap (λ gs. is_table_of is_writethrough gs t) same.groups ∙ apart t (ap (λ l. is_shared l t) (sym same.shared) ∙ e)) in
-      let second = reads m first.at stood apart_then (first.keeps refl) (record { there = ap (λ gs. slice_get gs place) same.groups ∙ there; settled = stood.stored.unsettled ∙ none }) in
+      let second = reads m first.at stood apart_then (first.keeps.over refl) (record { there = ap (λ gs. slice_get gs place) same.groups ∙ there; settled = stood.stored.unsettled ∙ none }) in
       record { world = second.world; at = second.at; is = record { mid = m; stop = None; first = first.is; next = second.is }; stands = second.stands; keeps = second.keeps }
 
   -- the round ended the line

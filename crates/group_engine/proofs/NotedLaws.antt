@@ -9,6 +9,7 @@ use Rattle.tier_journal.specs.Drafts.{StaysKept}
 use Rattle.row_types.specs.declared.rule.Refused.{Refused}
 use Rattle.row_types.specs.declared.rule.Refused.TheVariants as refused
 use Rattle.tier_journal.specs.declared.journal.TierJournal.{TierJournal}
+use Rattle.tier_journal.proofs.WayLaws.{kept_unless}
 use Rattle.group_catalog.specs.Catalogs.{groups_in}
 use Rattle.group_catalog.specs.declared.which.ResolvedWhich.{ResolvedWhich}
 use Rattle.cache_tier.specs.declared.reply.Reply.{Reply}
@@ -113,7 +114,7 @@ tried_wanting state possible t new k k' d place x part e stays still is w at sta
   at = at;
   is = inr (refl, ap (λ y. reply_of (Err y)) is);
   stands = λ whole. still w stands;
-  keeps = λ whole. keeps_stays state possible d k k' w stays keeps;
+  keeps = kept_unless (keeps_stays state possible d k k' w stays keeps);
 }
 
 -- with what was made ready

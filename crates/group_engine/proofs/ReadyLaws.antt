@@ -51,6 +51,7 @@ use Rattle.tier_journal.specs.Drafts.{IsDraftOf, StaysKept}
 use Rattle.tier_journal.specs.KeptOver.{DiskIsCaused, IsOver, IsWrittenOver, KeepsOver, WritesDraft, is_broken, over_disk}
 use Rattle.tier_journal.proofs.DraftLaws.{full_so, one_entry, one_place, placed_so}
 use Rattle.tier_journal.proofs.FlushLaws.{IsRead, failed_over, fitting_over, flushed_over, still_over}
+use Rattle.tier_journal.proofs.WayLaws.{kept_unless}
 use Rattle.stored_tier.specs.declared.tier.Tier.{Tier as Stored}
 use Rattle.stored_tier.specs.Performing.{Executes, IsCalm, IsCausedOver, KeepsSlots, PerformsInOver, StandsFor}
 use Rattle.stored_tier.specs.Stored.{HasSession, IsStoredAs}
@@ -265,7 +266,7 @@ module _ {D : Type 0} (state : D → SiteState) (possible : D → ℕ → Held �
       → ((schema : List TableDef) (o : Held) (j : Journal) (entries : List JournalEntry) → Certain state possible d o → Keeps schema t o.slots j → Holds (version_in t) schema b entries → Leaves state possible d d' (LeftByFlush schema o j entries))
       → reply ≡ faulty code.JournalFault → IsWrittenOver state possible (Some t') d d' (Some reply) (Flushes entries) w
   err_flush read t t' d d' w b entries reply now over holds tells crash is =
-      failed_over state possible read t t' d d' w entries reply now over tells
+      failed_over state possible read t t' d d' w entries reply now over holds.tables tells
       (crash w.tier.schema over.there w.journal entries over.certain over.keeps (subst (λ (v : ℕ). Holds v w.tier.schema b entries) (sym over.version) holds)) is
 
 -- the cause of an answer behind a flush
@@ -322,7 +323,7 @@ refused_over state possible t k d id st rule is = λ s has w at stands apart kee
   at = at;
   is = inl (subst (λ o. Unless o (DoesStatement s st) w w (only (No rule))) (sym (is s w has stands.stored)) (refl, refl));
   stands = λ whole. stands;
-  keeps = λ whole. keeps;
+  keeps = kept_unless keeps;
 }
 
 pub wanting_over : {D : Type 0} (state : D → SiteState) (possible : D → ℕ → Held → Type 0) (t new : Stored) (k k' : Option TierJournal) (d : D) (id : SessionId) (st : Stmt) → StaysKept k k' → ((w : World) → StandsFor t w → StandsFor new w)
@@ -332,7 +333,7 @@ wanting_over state possible t new k k' d id st stays still = λ s has w at stand
   at = at;
   is = inr (refl, refl);
   stands = λ whole. still w stands;
-  keeps = λ whole. keeps_stays state possible d k k' w stays keeps;
+  keeps = kept_unless (keeps_stays state possible d k k' w stays keeps);
 }
 
 -- what was made ready for the group that is stored at a place

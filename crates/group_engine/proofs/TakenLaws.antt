@@ -82,6 +82,7 @@ use Rattle.tier_journal.specs.Drafts.{StaysKept}
 use Rattle.tier_journal.specs.KeptOver.{KeepsOver}
 use Rattle.propagators.specs.Certainty.{KeepsCertain}
 use Rattle.tier_journal.specs.declared.journal.TierJournal.{TierJournal}
+use Rattle.tier_journal.proofs.WayLaws.{kept_unless}
 use Rattle.group_engine.proofs.TakenParts.{hidden_room, rows_room, stored_room}
 use Rattle.stored_tier.proofs.StoreRows.{are_kept, kept_is_shown, shows_kept}
 
@@ -114,7 +115,7 @@ reads_wanting state possible t k k' d place x refreshes stays w at stands apart 
   at = at;
   is = reads_failing refreshes x w w Memory (no_call w) refl;
   stands = λ whole. stands;
-  keeps = λ whole. keeps_stays state possible d k k' w stays keeps;
+  keeps = kept_unless (keeps_stays state possible d k k' w stays keeps);
 }
 
 -- the call failed
@@ -131,7 +132,7 @@ reads_failed state possible t k d d' place x refreshes asked e reply is told fau
       at = behind_at w w.tier (state d) (state d') now.there at now.told shares;
       is = reads_failing refreshes x w (behind w w.tier now.there (state d')) e (record { history = call.history; journal = call.journal; faults = call.faults; disk = call.disk; moment = call.moment; shared = call.shared }) refl;
       stands = λ whole. record { stored = stands.stored; shows = stands.shows ∙ sym stays.same; hides = hides_later t w now.there.history stands (read_longer w (TakesSnapshot asked (Err e)) now.there.history (λ a b s. s) call.history); stands = stands_behind w w.tier now.there (state d') stays.stands; waits = stands.waits };
-      keeps = λ whole. keeps_called state possible k d d' w (behind w w.tier now.there (state d')) keeps certain refl refl (behind_at w w.tier (state d) (state d') now.there at now.told shares);
+      keeps = kept_unless (keeps_called state possible k d d' w (behind w w.tier now.there (state d')) keeps certain refl refl (behind_at w w.tier (state d) (state d') now.there at now.told shares));
     })
 
 -- the group as the catalog has it
@@ -283,7 +284,7 @@ module _ {D : Type 0} (state : D → SiteState) (possible : D → ℕ → Held �
     at = at_mid;
     is = is;
     stands = λ whole. record { stored = stored_room old new same w.tier stands.stored; shows = rows_room old new same ∙ stands.shows ∙ sym read.shown; hides = hides_then old new w later (hidden_room old new same) stands longer; stands = stands_behind w w.tier now.there (state d') read.stands; waits = stands.waits };
-    keeps = λ whole. keeps_mid;
+    keeps = kept_unless keeps_mid;
   }
 
   -- it was
@@ -484,7 +485,7 @@ module _ {D : Type 0} (state : D → SiteState) (possible : D → ℕ → Held �
       at = at_mid;
       is = is;
       stands = λ whole. record { stored = stands.stored; shows = stands.shows ∙ sym read.shown; hides = hides_later old w later stands longer; stands = stands_behind w w.tier now.there (state d') read.stands; waits = stands.waits };
-      keeps = λ whole. keeps_mid;
+      keeps = kept_unless keeps_mid;
     }
 
     pub full_so : (result : Result Reply Refused) → JudgesFull old place which c result → IsPerformedOver state possible old k d' (Some (reply_of result)) (λ w'. ReadsMatching refreshes x w w' (reply_of result))

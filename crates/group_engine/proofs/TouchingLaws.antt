@@ -19,6 +19,7 @@ use Rattle.outside.specs.declared.site.Snapshot.{Snapshot}
 use Rattle.propagators.specs.Certainty.{KeepsCertain}
 use Rattle.tier_journal.specs.KeptOver.{KeepsOver}
 use Rattle.tier_journal.specs.declared.journal.TierJournal.{TierJournal}
+use Rattle.tier_journal.proofs.WayLaws.{kept_unless}
 use Rattle.group_catalog.specs.Catalogs.{groups_in}
 use Rattle.order_laws.proofs.TruthLaws.{both_true}
 use Rattle.group_catalog.specs.declared.which.ResolvedWhich.{ResolvedWhich}
@@ -186,7 +187,7 @@ module _ {D : Type 0} (state : D → SiteState) (possible : D → ℕ → Held �
   rows_judged = ap (λ (s : TableState). table_at s x.group.def.tree.root.table) backing_is ∙ read.rows x.group.def.tree.root.table (root_covers x.group) ∙ sym copied_roots
 
   left_so : (reply : Reply) → ReadsMatching true x w mid reply → IsPerformedOver state possible old k d' (Some reply) (λ w'. ReadsMatching true x w w' reply)
-  left_so reply is = record { world = mid; at = at_mid; is = is; stands = λ whole. stands_mid; keeps = λ whole. keeps_mid }
+  left_so reply is = record { world = mid; at = at_mid; is = is; stands = λ whole. stands_mid; keeps = kept_unless keeps_mid }
 
   module _ (roots : HasRootKeys store.0) where
     held : (q : Row) → is_key x.group.keys q ≡ is_held store.0 hides.0.table q

@@ -73,6 +73,7 @@ use Rattle.table_defs.specs.Declarations.{IsRefusedBy}
 use Rattle.tier_base.specs.declared.limit.Limit.TheVariants as limit
 use Rattle.cache_tier.specs.Rules.{past}
 use Rattle.tier_journal.specs.declared.journal.TierJournal.{TierJournal}
+use Rattle.tier_journal.proofs.WayLaws.{kept_unless}
 use Rattle.outside.specs.Holding.{Held}
 use Rattle.stored_tier.specs.Grouping.{KeepsGroups}
 use Rattle.group_engine.proofs.DropLocks.{group_stored}
@@ -338,7 +339,7 @@ module _ {D : Type 0} (state : D → SiteState) (possible : D → ℕ → Held �
         at = at;
         is = inl (unload_so s x all w w reply free (full_then state possible k d w ready (unload_entries all x.group) (Answers (unload_answer x all)) reply keeps ready_for full is));
         stands = λ whole. stands_over t mid w same stands;
-        keeps = λ whole. keeps;
+        keeps = kept_unless keeps;
       }
 
   -- 120, then 111, or memory was wanting
@@ -348,7 +349,7 @@ module _ {D : Type 0} (state : D → SiteState) (possible : D → ℕ → Held �
     at = at;
     is = by s w x e (told s w x has stands there (writes_through x.group aim.read_only kinds kind) of);
     stands = λ whole. stands_over t mid w same stands;
-    keeps = λ whole. keeps;
+    keeps = kept_unless keeps;
   }
     where
       by : (s : Session) (w : World) (x : Target) (e : Refused) → IsRefusedBy (unload_fault s x w) e → Tries (UnloadsTarget s x all) w w (reply_of (Err e))
@@ -361,7 +362,7 @@ module _ {D : Type 0} (state : D → SiteState) (possible : D → ℕ → Held �
     at = at;
     is = inr (refl, refl);
     stands = λ whole. stands_kept mid new w (stands_over t mid w same stands) kept;
-    keeps = λ whole. keeps;
+    keeps = kept_unless keeps;
   }
 
 -- the whole statement, from the group that it names

@@ -23,6 +23,7 @@ use Rattle.group_store.specs.Keeping.{primary_of}
 use Rattle.group_store.specs.Stores.{Kept}
 use Rattle.slot_rows.specs.SlotKeys.{RowsHeld}
 use Rattle.tier_journal.specs.declared.journal.TierJournal.{TierJournal}
+use Rattle.tier_journal.proofs.WayLaws.{kept_unless}
 use Rattle.tier_statements.specs.Seen.{session_seen}
 use Rattle.cache_tier.specs.declared.group.AgingRule.{AgingRule}
 use Rattle.cache_tier.specs.declared.group.AgingRule.TheVariants.{ByTime, LastUse}
@@ -296,7 +297,7 @@ module _ {D : Type 0} (state : D → SiteState) (possible : D → ℕ → Held �
     is = inl (unload_so s x all w w reply (listed_free t aim s w x sound stands here (kinds ∙ kind) of fits)
         (full_then state possible k d w ready (unload_entries all x.group) (Answers (unload_answer x all)) reply keeps ready_for full told));
     stands = λ whole. stands;
-    keeps = λ whole. keeps;
+    keeps = kept_unless keeps;
   }
 
   -- 120 of the condition, or memory was wanting
@@ -306,7 +307,7 @@ module _ {D : Type 0} (state : D → SiteState) (possible : D → ℕ → Held �
     at = at;
     is = by s w x e (listed_fault t aim s w x sound stands here (kinds ∙ kind) of e told);
     stands = λ whole. stands;
-    keeps = λ whole. keeps;
+    keeps = kept_unless keeps;
   }
     where
       by : (s : Session) (w : World) (x : Target) (e : Refused) → IsRefusedBy (unload_fault s x w) e → Tries (UnloadsTarget s x all) w w (reply_of (Err e))

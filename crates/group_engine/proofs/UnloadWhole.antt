@@ -54,6 +54,7 @@ use Rattle.tier_base.specs.declared.limit.Limit.TheVariants as limit
 use Rattle.cache_tier.specs.Rules.{past}
 use Rattle.tier_journal.specs.Drafts.{StaysKept}
 use Rattle.tier_journal.specs.declared.journal.TierJournal.{TierJournal}
+use Rattle.tier_journal.proofs.WayLaws.{kept_unless}
 use Rattle.outside.specs.Holding.{Held}
 use Rattle.stored_tier.proofs.OverLaws.{keeps_stays}
 use Rattle.group_engine.proofs.DropLocks.{group_stored}
@@ -225,7 +226,7 @@ module _ {D : Type 0} (state : D → SiteState) (possible : D → ℕ → Held �
         at = at;
         is = inl (unload_so s x all w w reply (whole_free s w x aim.place stands.stands here reads whole.1) (full_then state possible k d w ready (unload_entries all x.group) (Answers (unload_answer x all)) reply keeps ready_for full told));
         stands = λ whole. stands;
-        keeps = λ whole. keeps;
+        keeps = kept_unless keeps;
       }
 
   -- memory was wanting
@@ -235,7 +236,7 @@ module _ {D : Type 0} (state : D → SiteState) (possible : D → ℕ → Held �
     at = at;
     is = inr (refl, refl);
     stands = λ whole. stands_kept t new w stands kept;
-    keeps = λ whole. keeps;
+    keeps = kept_unless keeps;
   }
 
   -- with what was made ready
@@ -250,7 +251,7 @@ module _ {D : Type 0} (state : D → SiteState) (possible : D → ℕ → Held �
     at = at;
     is = inr (refl, ap (λ y. reply_of (Err y)) is);
     stands = λ whole. stands;
-    keeps = λ whole. keeps_stays state possible d k k' w stays keeps;
+    keeps = kept_unless (keeps_stays state possible d k k' w stays keeps);
   }
 
 -- what was made ready for the group that is stored at a place

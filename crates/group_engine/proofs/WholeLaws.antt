@@ -37,6 +37,7 @@ use Rattle.outside.specs.Holding.{Held}
 use Rattle.tier_journal.specs.KeptOver.{KeepsOver}
 use Rattle.propagators.specs.Certainty.{KeepsCertain}
 use Rattle.tier_journal.specs.declared.journal.TierJournal.{TierJournal}
+use Rattle.tier_journal.proofs.WayLaws.{kept_unless}
 use Rattle.stored_tier.proofs.OverLaws.{keeps_called}
 use Rattle.stored_tier.specs.Performing.{IsPerformedOver, StandsFor}
 use Rattle.stored_tier.specs.Refreshing.{IsStateAt, is_filled, is_off, positioned, roots_kept}
@@ -272,7 +273,7 @@ module _ {D : Type 0} (state : D → SiteState) (possible : D → ℕ → Held �
     at = r.at;
     is = record { told = Err e; mid = r.world; call = r.call; tier = r.tier; goes_on = (refl, told) };
     stands = λ whole. r.stands;
-    keeps = λ whole. keeps_read (Err e) r;
+    keeps = kept_unless (keeps_read (Err e) r);
   }
 
   -- 119 of the journal
@@ -288,7 +289,7 @@ module _ {D : Type 0} (state : D → SiteState) (possible : D → ℕ → Held �
       goes_on = inl (full_then state possible k mid r.world ready (load_entries g) (Answers (whole_answer (whole_target place g) n)) reply (keeps_read (Ok n) r) (ready_read (Ok n) r) full told);
     };
     stands = λ whole. r.stands;
-    keeps = λ whole. keeps_read (Ok n) r;
+    keeps = kept_unless (keeps_read (Ok n) r);
   }
 
 -- the statements

@@ -38,20 +38,21 @@ use Rattle.line_laws.proofs.FlushLaws.{IsWhole, kept_flushes}
 use Rattle.line_laws.proofs.OtherLaws.{others_pending, others_schema, others_tickets}
 use Rattle.line_laws.proofs.PartWords.{IsBeside, quiet_on, same_on, still_quiet, unshared_still}
 
+-- the record of a synchronous commit is flushed, and the ticket drawn
+pub prepared : (s : Session) (w m : World) (early : List Sealed) → Stands w → IsJournalled w early → session_of w.tier s.label ≡ Some s → IsWhole (Prepares (sealed_own w.tier s) ∷ []) w m → IsJournalledOn (record w { tier = with_ticket w.tier; journal = m.journal }) early
+prepared s w m early stands j there is =
+    prepare_kept w early s (with_ticket w.tier) m.journal stands j there (record { kept = is.journal.batch.kept ∙ j.kept; flushed = is.journal.batch.flushed; tail = is.journal.batch.tail; way = is.journal.way }) (still_quiet (with_ticket w.tier))
+
 module _ (s : Session) (w : World) (early : List Sealed) (stands : Stands w) (j : IsJournalled w early) (apart : IsUnshared w) (there : session_of w.tier s.label ≡ Some s) (meets : MeetsNone s w) where
   abbrev x : Sealed
   x = sealed_own w.tier s
-
-  -- the record is flushed, and the ticket drawn
-  prepared : (m : World) → IsWhole (Prepares (sealed_own w.tier s) ∷ []) w m → IsJournalledOn (record w { tier = with_ticket w.tier; journal = m.journal }) early
-  prepared m is = prepare_kept w early s (with_ticket w.tier) m.journal stands j there (record { kept = is.journal.batch.kept ∙ j.kept; flushed = is.journal.batch.flushed; tail = is.journal.batch.tail; way = is.journal.way }) (still_quiet (with_ticket w.tier))
 
   module _ (m : World) (is : IsWhole (Prepares (sealed_own w.tier s) ∷ []) w m) where
     abbrev drawn : World
     drawn = record w { tier = with_ticket w.tier; journal = m.journal }
 
     on : IsJournalledOn (record w { tier = with_ticket w.tier; journal = m.journal }) early
-    on = prepared m is
+    on = prepared s w m early stands j there is
 
     -- nothing of the tier's came
     without : (w' : World) (t : Tier) → Around w.shared (Grows []) w.history w'.history → IsBeside m w' → w'.tier ≡ t → IsQuiet (with_ticket w.tier) t → IsJournalledOn w' early

@@ -52,6 +52,21 @@ use Rattle.line_laws.proofs.TellingLaws.{names_apart, none, refused, some_flushe
 
 -- ---- COMMIT
 
+-- the record is flushed with the tail, and the tier is told so
+pub flushed_with_commit : (s : Session) (w mid : World) (early : List Sealed) → IsJournalled w early → IsJournalledOn (with_commit_noted s w) early → IsWhole (Commits (sealed_own w.tier s) ∷ []) w mid
+    → IsJournalledOn (record mid { tier = committed_unsettled (sealed_own w.tier s) s.label mid.tier }) early
+flushed_with_commit s w mid early j noted is =
+    let before = with_commit_noted s w in
+    let on = flushes_kept before noted.now mid.journal noted.is (record {
+      kept = is.journal.batch.kept ∙ j.kept;
+      flushed = is.journal.batch.flushed ∙ append_assoc w.journal.flushed w.journal.tail (Commits (sealed_own w.tier s) ∷ []);
+      tail = is.journal.batch.tail;
+      way = is.journal.way;
+    }) in
+    let last = on_then (record before { journal = mid.journal }) early noted.now noted.more noted.grows on in
+    one_journalled_on (record before { journal = mid.journal }) (record mid { tier = committed_unsettled (sealed_own w.tier s) s.label mid.tier }) early
+    (record { tier = ap (λ (t : Tier). committed_unsettled (sealed_own w.tier s) s.label t) is.tier; history = is.history; journal = refl; shared = is.shared }) last
+
 recorded : (s : Session) (w mid w' : World) (early : List Sealed) (stop : Option Reply) → IsJournalled w early → IsJournalledOn (with_commit_noted s w) early → (durable : Bool) → Records durable (Commits (sealed_own w.tier s)) w mid stop → is_broken stop ≡ false
     → w' ≡ record mid { tier = committed_unsettled (sealed_own w.tier s) s.label mid.tier } → IsJournalledOn w' early × (stop ≡ None)
 recorded s w mid w' early stop j noted false q ok e = by (subst (λ b. OnlyWhere b (NotesKept (Commits (sealed_own w.tier s))) w mid stop) j.kept q)
@@ -60,19 +75,7 @@ recorded s w mid w' early stop j noted false q ok e = by (subst (λ b. OnlyWhere
     by n = (subst (λ x. IsJournalledOn x early) (sym (e ∙ ap (λ (x : World). record x { tier = committed_unsettled (sealed_own w.tier s) s.label x.tier }) n.0)) noted, n.1)
 recorded s w mid w' early stop j noted true q ok e =
     let f = kept_flushes (Commits (sealed_own w.tier s) ∷ []) w mid stop j.kept q ok in
-    let is = f.0 in
-    let before = with_commit_noted s w in
-    let on = flushes_kept before noted.now mid.journal noted.is (record {
-      kept = is.journal.batch.kept ∙ j.kept;
-      flushed = is.journal.batch.flushed ∙ append_assoc w.journal.flushed w.journal.tail (Commits (sealed_own w.tier s) ∷ []);
-      tail = is.journal.batch.tail;
-      way = is.journal.way;
-    }) in
-    let last = on_then (record before { journal = mid.journal }) early noted.now noted.more noted.grows on in (
-      subst (λ x. IsJournalledOn x early) (sym e) (one_journalled_on (record before { journal = mid.journal }) (record mid { tier = committed_unsettled (sealed_own w.tier s) s.label mid.tier }) early
-          (record { tier = ap (λ (t : Tier). committed_unsettled (sealed_own w.tier s) s.label t) is.tier; history = is.history; journal = refl; shared = is.shared }) last),
-      f.1,
-    )
+    (subst (λ x. IsJournalledOn x early) (sym e) (flushed_with_commit s w mid early j noted f.0), f.1)
 
 pub commits_later_kept : (s : Session) → KeepsJournalOf s Anything (CommitsLater s)
 commits_later_kept s w w' early reply stands j apart there p q ok = by _ q
@@ -94,7 +97,7 @@ commits_later_kept s w w' early reply stands j apart there p q ok = by _ q
 
 -- ---- CREATE
 
-created : (d : CreateGroup) (tree : Tree) (w mid : World) (early : List Sealed) → Stands w → IsJournalled w early → definition_names w.tier.schema (definitions_of w.tier.groups) d ≡ None → IsNewGroup w (group_of w.tier d tree) → IsTreeOf (placed_tables w.tier.schema d) tree
+pub created : (d : CreateGroup) (tree : Tree) (w mid : World) (early : List Sealed) → Stands w → IsJournalled w early → definition_names w.tier.schema (definitions_of w.tier.groups) d ≡ None → IsNewGroup w (group_of w.tier d tree) → IsTreeOf (placed_tables w.tier.schema d) tree
     → IsWhole (Defines d (text_of d) ∷ []) w mid → IsJournalledOn (record mid { tier = with_new_group d tree mid.tier }) early
 created d tree w mid early stands j names new tree_is is =
     one_journalled_on (with_flushed_entry (with_new_group d tree mid.tier) mid.journal w) (record mid { tier = with_new_group d tree mid.tier }) early (record { tier = refl; history = is.history; journal = refl; shared = is.shared })
@@ -168,16 +171,17 @@ may_drop s place g w early j may unlocked =
     (map_nothing locked_by (find (λ (r : Session). writes_on g r.own) (others s.label w.tier)) unlocked) in
     record { before = split.before; behind = split.behind; is = split.is; rest = split.rest; settled = may.settled; unwritten = λ t. owns_off g w.tier.sessions unwritten }
 
+pub gone : (s : Session) (place : ℕ) (g : Group) (w mid : World) (early : List Sealed) → IsJournalled w early → IsUnshared w → MayGo s place g w → drop_fault s g w ≡ None → IsWhole (Drops g.def.name ∷ []) w mid
+    → IsJournalledOn (record mid { tier = without_group g.def.name mid.tier }) early
+gone s place g w mid early j apart may unlocked is =
+    one_journalled_on (with_flushed_entry (without_group g.def.name mid.tier) mid.journal w) (record mid { tier = without_group g.def.name mid.tier }) early (record { tier = refl; history = is.history; journal = refl; shared = is.shared })
+    (drop_kept w early g.def.name g (without_group g.def.name mid.tier) mid.journal may.stands j apart (may_drop s place g w early j may unlocked) (nat_list_eq_equiv.refl g.def.name)
+    (record { kept = is.journal.batch.kept ∙ j.kept; flushed = is.journal.batch.flushed; tail = is.journal.batch.tail; way = is.journal.way })
+    (subst (λ t. IsQuiet (without_group g.def.name t) (without_group g.def.name mid.tier)) is.tier (still_quiet (without_group g.def.name mid.tier))))
+
 drops_rest : (s : Session) (place : ℕ) (g : Group) (w w' : World) (early : List Sealed) (reply : Reply) → IsJournalled w early → IsUnshared w → MayGo s place g w → DropsRest s g w w' reply → tells code.JournalFault reply.last ≡ false → IsJournalledOn w' early
 drops_rest s place g w w' early reply j apart may q ok = by (drop_fault s g w) refl q
   where
-    gone : (mid : World) → drop_fault s g w ≡ None → IsWhole (Drops g.def.name ∷ []) w mid → IsJournalledOn (record mid { tier = without_group g.def.name mid.tier }) early
-    gone mid unlocked is =
-        one_journalled_on (with_flushed_entry (without_group g.def.name mid.tier) mid.journal w) (record mid { tier = without_group g.def.name mid.tier }) early (record { tier = refl; history = is.history; journal = refl; shared = is.shared })
-        (drop_kept w early g.def.name g (without_group g.def.name mid.tier) mid.journal may.stands j apart (may_drop s place g w early j may unlocked) (nat_list_eq_equiv.refl g.def.name)
-        (record { kept = is.journal.batch.kept ∙ j.kept; flushed = is.journal.batch.flushed; tail = is.journal.batch.tail; way = is.journal.way })
-        (subst (λ t. IsQuiet (without_group g.def.name t) (without_group g.def.name mid.tier)) is.tier (still_quiet (without_group g.def.name mid.tier))))
-
     by : (o : Option Rule) → drop_fault s g w ≡ o → Unless o (Then (FlushesSome (Drops g.def.name ∷ [])) (Answers (drop_answer g.def.name))) w w' reply → IsJournalledOn w' early
     by (Some rule) e q = same_on w w' early q.0 j
     by None e t = go t.stop t.first t.next
@@ -186,13 +190,23 @@ drops_rest s place g w w' early reply j apart may q ok = by (drop_fault s g w) r
         go None first next = elim (some_flushes (Drops g.def.name ∷ []) w t.mid None j.kept first refl) [
           | none empty same end ↦ (let bad : Drops g.def.name ∷ [] ≡ [] = empty in Prim.cc)
           | refused r same end ↦ (let bad : None ≡ Some r = end in Prim.cc)
-          | whole is end ↦ subst (λ x. IsJournalledOn x early) (sym next.0) (gone t.mid e is)
+          | whole is end ↦ subst (λ x. IsJournalledOn x early) (sym next.0) (gone s place g w t.mid early j apart may e is)
         ]
         go (Some r) first next = elim (some_flushes (Drops g.def.name ∷ []) w t.mid (Some r) j.kept first (ap (λ (x : Reply). tells code.JournalFault x.last) (sym next.1) ∙ ok)) [
           | none empty same end ↦ (let bad : Drops g.def.name ∷ [] ≡ [] = empty in Prim.cc)
           | refused r same end ↦ same_on w w' early (next.0 ∙ same) j
           | whole is end ↦ (let bad : Some r ≡ None = end in Prim.cc)
         ]
+
+-- so it is behind a round
+pub may_go : (s : Session) (place : ℕ) (g : Group) (w mid : World) (early : List Sealed) → session_of w.tier s.label ≡ Some s → s.own ≡ [] → slice_get w.tier.groups place ≡ Some g → Rounded w mid early → (is_writethrough g ≡ true → mid.tier.unsettled ≡ []) → MayGo s place g mid
+may_go s place g w mid early session rests at r settled = record {
+  stands = r.stands;
+  session = ap (λ (x : Tier). session_of x s.label) r.tier ∙ session;
+  rests = rests;
+  there = ap (λ (x : Tier). slice_get x.groups place) r.tier ∙ at;
+  settled = settled;
+}
 
 pub drops_kept : (s : Session) (name : List ℕ) → KeepsJournalOf s (HasNoWrites s) (DropsGroup s name)
 drops_kept s name w w' early reply stands j apart session rests q ok = by (is_writethrough q.group) refl q.does
@@ -214,13 +228,7 @@ drops_kept s name w w' early reply stands j apart session rests q ok = by (is_wr
             r = g.0
 
             may : MayGo s q.place q.group t.mid
-            may = record {
-              stands = r.stands;
-              session = ap (λ (x : Tier). session_of x s.label) r.tier ∙ session;
-              rests = rests;
-              there = ap (λ (x : Tier). slice_get x.groups q.place) r.tier ∙ q.is;
-              settled = λ e. g.1;
-            }
+            may = may_go s q.place q.group w t.mid early session rests q.is r (λ e. g.1)
 
             last : Tries (DropsRest s q.group) t.mid w' reply → IsJournalledOn w' r.on.now
             last (inl d) = drops_rest s q.place q.group t.mid w' r.on.now reply r.on.is (unshared_still w t.mid apart r.shared (subst (λ (x : Tier). AreAlike w.tier.groups x.groups) (sym r.tier) (alike_self w.tier.groups))) may d ok

@@ -1,5 +1,5 @@
 -- The console's writes, and the end of the input.
-use Rattle.std.proofs.Common.{◌≡◌, ◌⊎◌, inl, inr, ℕ, Bool, true, false, not, ◌&&◌, ◌||◌, nat_eq, Some, Result, Ok, Err, List, [], ◌∷◌, ◌++◌, refl, sym, ap, subst, ◌∙◌, append-nil, arith, eq-eqb, eqb-true}
+use Rattle.std.proofs.Common.{◌≡◌, ◌⊎◌, inl, inr, ℕ, Bool, true, false, not, ◌&&◌, ◌||◌, nat_eq, Some, Result, Ok, Err, List, [], ◌∷◌, ◌++◌, refl, sym, ap, subst, ◌∙◌, append-nil, eq-eqb, eqb-true}
 use Rattle.std.specs.Option.{IsSome, option_and_then}
 use Rattle.tier_base.specs.declared.number.TableId.{TableId}
 use Rattle.evaluator.specs.declared.change.Change.{Change}
@@ -97,7 +97,7 @@ console_comes : (w : World) (early : List Sealed) (ops : List Op) → IsJournall
     → IsJournalledOn (at_history (w.history ++ Foreign ops ∷ []) w) early
 console_comes w early ops j off leads = record {
   now = bare.now;
-  is = safely (at_history (w.history ++ Foreign ops ∷ []) w) bare.now back (grow_safe w w.tier (Foreign ops) bare.now j.safe back (omega arith) (λ alone. alone));
+  is = safely (at_history (w.history ++ Foreign ops ∷ []) w) bare.now back (grow_safe w w.tier (Foreign ops) bare.now j.safe back (λ alone. alone));
   more = bare.more;
   grows = bare.grows;
 }

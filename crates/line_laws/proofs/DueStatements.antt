@@ -100,7 +100,7 @@ tie_kept w early t j same up alike = record {
   alike = alike_trans j.catalog.groups w.tier.groups t.groups j.alike alike;
   tie = same ∙ j.tie;
   next = let below = j.next in omega (arith, below, up);
-  safe = still_safe w t j.safe up (unshared_back w.shared w.tier.groups t.groups alike);
+  safe = still_safe w t j.safe (unshared_back w.shared w.tier.groups t.groups alike);
 }
 
 there_pending : (h : List Entry) (log : List Sealed) (s : Sealed) → has_ticket s.ticket.0 h ≡ true → pending h (log ++ s ∷ []) ≡ pending h log

@@ -4,7 +4,7 @@ use Rattle.std.specs.Bool.{MatchBool}
 use Rattle.table_state.specs.declared.history.Sealed.{Sealed}
 use Rattle.table_state.specs.declared.operation.Op.{Op}
 use Rattle.cache_tier.specs.declared.reply.Reply.{Reply}
-use Rattle.cache_tier.specs.JournalSteps.{Failing, Flushed, Flushes, FlushesKept, Whole, flush_stop, journal_behind, name_sizes}
+use Rattle.cache_tier.specs.JournalSteps.{Failing, Flushed, Flushes, FlushesKept, Whole, flush_stop, name_sizes}
 use Rattle.cache_tier.specs.Journals.{Journal, JournalEntry, flushed_with, passed_by}
 use Rattle.cache_tier.specs.JournalWays.{given}
 use Rattle.cache_tier.specs.Worlds.{Passes, World}
@@ -35,30 +35,33 @@ whole_flushed size entries j = by j.tail refl entries refl
     by (y ∷ tail) e es f = subst (λ t. HasBatch entries (record j { tail = t }) (flushed_with size entries (record j { tail = t }))) (sym e)
         (record { kept = refl; flushed = sym (append_assoc j.flushed (y ∷ tail) entries); tail = refl })
 
--- a flush that didn't fail: tier and history stay, and the entries are there
+-- what a flush leaves, be it done or failed: tier and history stay, and the entries are there
 pub record IsWhole (entries : List JournalEntry) (w w' : World) : Type 0 where
   pub tier : w'.tier ≡ w.tier
   pub history : w'.history ≡ w.history
   pub journal : HasFlushed entries (length w.history) w.journal w'.journal
   pub shared : w'.shared ≡ w.shared
 
+-- where a journal is kept, the flush is one of it
+flushes_it : (entries : List JournalEntry) (w w' : World) (stop : Option Reply) → w.journal.kept ≡ true → Flushes entries w w' stop → FlushesKept entries w w' stop
+flushes_it entries w w' stop kept f = subst (λ b. MatchBool b (FlushesKept entries w w' stop) (Passes w w' stop)) kept f
+
+pub flushes_whole : (entries : List JournalEntry) (w w' : World) (stop : Option Reply) → w.journal.kept ≡ true → Flushes entries w w' stop → IsWhole entries w w'
+flushes_whole entries w w' stop kept f =
+    let k = flushes_it entries w w' stop kept f in
+    let h = whole_flushed (name_sizes w) entries w.journal in record {
+      tier = k.tier;
+      history = k.history;
+      journal = subst (HasFlushed entries (length w.history) w.journal) (sym k.journal) (record { batch = record { kept = h.kept; flushed = h.flushed; tail = h.tail }; way = refl });
+      shared = k.shared;
+    }
+
 pub kept_flushes : (entries : List JournalEntry) (w w' : World) (stop : Option Reply) → w.journal.kept ≡ true → Flushes entries w w' stop → is_broken stop ≡ false → IsWhole entries w w' × (stop ≡ None)
-kept_flushes entries w w' stop kept f ok = whole (subst (λ b. MatchBool b (FlushesKept entries w w' stop) (Passes w w' stop)) kept f)
+kept_flushes entries w w' stop kept f ok = (flushes_whole entries w w' stop kept f, let k = flushes_it entries w w' stop kept f in by k.result k.end)
   where
-    whole : FlushesKept entries w w' stop → IsWhole entries w w' × (stop ≡ None)
-    whole k = by k.result k.journal k.end
-      where
-        by : (result : Flushed) → w'.journal ≡ journal_behind result w entries → stop ≡ flush_stop result → IsWhole entries w w' × (stop ≡ None)
-        by Whole e s = (
-          record {
-            tier = k.tier;
-            history = k.history;
-            journal = let h = whole_flushed (name_sizes w) entries w.journal in subst (HasFlushed entries (length w.history) w.journal) (sym e) (record { batch = record { kept = h.kept; flushed = h.flushed; tail = h.tail }; way = refl });
-            shared = k.shared;
-          },
-          s,
-        )
-        by Failing e s = let bad : true ≡ false = ap is_broken (sym s) ∙ ok in Prim.cc
+    by : (result : Flushed) → stop ≡ flush_stop result → stop ≡ None
+    by Whole s = s
+    by Failing s = let bad : true ≡ false = ap is_broken (sym s) ∙ ok in Prim.cc
 
 -- the tail alone
 pub tail_flushed : (w w' : World) (early : List Sealed) → IsJournalled w early → IsWhole [] w w' → IsJournalledOn w' early

@@ -17,26 +17,31 @@ use Rattle.cache_tier.specs.TierStates.{Session, Tier, refresh_tried}
 use Rattle.cache_tier.specs.UnloadSteps.{Unloads, gone_keys, unload_answer, unload_entries, unload_fault, unloaded}
 use Rattle.cache_tier.specs.Worlds.{Becomes, Then, Unless, World, only}
 use Rattle.recovery.specs.Journalled.{IsAlike, IsQuiet}
-use Rattle.recovery.proofs.NewestLaws.{NamesApart}
 use Rattle.line_laws.specs.Keeping.{KeepsJournal}
 use Rattle.line_laws.proofs.PartWords.{Any, GoesPart, GoesStage, becomes_goes, match_goes, only_where_goes, quiet_goes, reads_first_goes, reads_goes, still_quiet, then_goes, unless_goes}
 use Rattle.line_laws.proofs.QuietTiers.{alike_changed, quiet_groups, refreshed_quiet, tried_quiet}
-use Rattle.line_laws.proofs.TellingLaws.{IsAt, IsLoadedAs, Told, at_of_tier, settles_goes, state_told, unload_told}
+use Rattle.line_laws.proofs.TellingLaws.{IsAt, IsLoadedAs, Tells, at_of_tier, settles_goes, state_told, unload_told}
 
 -- ---- ALTER
 
+pub alone_tells : (place : ℕ) (g : Group) (state : RefreshState) → Tells (IsAt place g) (altered_entries g state) (λ w. (state_answer place state w).0)
+alone_tells place g state w at apart = state_told w.tier w.tier place g state at apart (still_quiet w.tier)
+
 alone_goes : (place : ℕ) (g : Group) (state : RefreshState) → GoesPart (IsAt place g) (SetsStateAlone place g state)
-alone_goes place g state =
-    settles_goes (IsAt place g) (altered_entries g state) (state_answer place state) (at_of_tier place g)
-    (λ w at apart. state_told w.tier w.tier place g state at apart (still_quiet w.tier))
+alone_goes place g state = settles_goes (IsAt place g) (altered_entries g state) (state_answer place state) (at_of_tier place g) (alone_tells place g state)
+
+pub refreshed_tells : (place : ℕ) (g : Group) (state : RefreshState) (chosen : Choice) (n : ℕ) → Tells (IsAt place g) (altered_entries g state) (λ w. (refreshed_state place state chosen n w).0)
+refreshed_tells place g state chosen n w at apart = state_told w.tier (refreshed chosen n (backing_at w n) w.tier) place g state at apart (refreshed_quiet chosen n (backing_at w n) w.tier)
+
+-- the group stays at its place where the call was tried
+pub stays_at : (place : ℕ) (g : Group) (tried : Tier → Tier) → ((t : Tier) → (tried t).groups ≡ t.groups) → (w w' : World) → IsAt place g w → w'.tier ≡ tried w.tier → IsAt place g w'
+stays_at place g tried same w w' at e = ap (λ (t : Tier). slice_get t.groups place) e ∙ ap (λ l. slice_get l place) (same w.tier) ∙ at
 
 refreshed_goes : (place : ℕ) (g : Group) (state : RefreshState) (chosen : Choice) (tried : Tier → Tier) → ((t : Tier) → IsQuiet t (tried t)) → ((t : Tier) → (tried t).groups ≡ t.groups) → GoesPart (IsAt place g) (SetsStateRefreshed place g state chosen tried)
 refreshed_goes place g state chosen tried quiet same =
     reads_goes (IsAt place g) (IsAt place g) tried
-    (λ n. Then (FlushesSome (altered_entries g state)) (Answers (refreshed_state place state chosen n))) quiet
-    (λ w w' at e. ap (λ (t : Tier). slice_get t.groups place) e ∙ ap (λ l. slice_get l place) (same w.tier) ∙ at)
-    (λ n. settles_goes (IsAt place g) (altered_entries g state) (refreshed_state place state chosen n) (at_of_tier place g)
-    (λ w at apart. state_told w.tier (refreshed chosen n (backing_at w n) w.tier) place g state at apart (refreshed_quiet chosen n (backing_at w n) w.tier)))
+    (λ n. Then (FlushesSome (altered_entries g state)) (Answers (refreshed_state place state chosen n))) quiet (stays_at place g tried same)
+    (λ n. settles_goes (IsAt place g) (altered_entries g state) (refreshed_state place state chosen n) (at_of_tier place g) (refreshed_tells place g state chosen n))
 
 alters_to : (state : RefreshState) (place : ℕ) (g : Group) → GoesPart (IsAt place g) (AltersTo state place g)
 alters_to On place g w w' early reply j apart at q ok =
@@ -62,16 +67,16 @@ unloaded_as gone g h a = by (has_flag h) refl
     by true e = record { def = a.def; state = a.state; loaded = ap (λ b. cond b false g.loaded) (sym (sym kind ∙ e)) }
     by false e = record { def = a.def; state = a.state; loaded = a.loaded ∙ ap (λ b. cond b false g.loaded) (sym (sym kind ∙ e)) }
 
+pub unload_tells : (x : Target) (all : Bool) → Tells (IsAt x.place x.group) (unload_entries all x.group) (λ w. (unload_answer x all w).0)
+unload_tells x true w at apart = unload_told w.tier w.tier x.place x.group (unloaded (gone_keys w x) true) at apart (still_quiet w.tier) (unloaded_as (gone_keys w x) x.group)
+unload_tells x false w at apart =
+    quiet_groups w.tier (changed (alone x.place) (unloaded (gone_keys w x) false) w.tier).groups
+    (alike_changed (alone x.place) (unloaded (gone_keys w x) false) (λ g. record { def = refl; state = λ r. refl; loaded = refl }) 0 w.tier.groups)
+
 unloads_target : (s : Session) (x : Target) (all : Bool) → GoesPart (IsAt x.place x.group) (λ w w' reply. Unless (unload_fault s x w) (Then (FlushesSome (unload_entries all x.group)) (Answers (unload_answer x all))) w w' reply)
 unloads_target s x all w w' early reply j apart at q ok =
     unless_goes (IsAt x.place x.group) (unload_fault s x w) (Then (FlushesSome (unload_entries all x.group)) (Answers (unload_answer x all)))
-    (settles_goes (IsAt x.place x.group) (unload_entries all x.group) (unload_answer x all) (at_of_tier x.place x.group) (told all)) w w' early reply j apart at q ok
-  where
-    told : (all : Bool) (w : World) → IsAt x.place x.group w → NamesApart w.tier.groups → Told (unload_entries all x.group) w.tier (unload_answer x all w).0
-    told true w at apart = unload_told w.tier w.tier x.place x.group (unloaded (gone_keys w x) true) at apart (still_quiet w.tier) (unloaded_as (gone_keys w x) x.group)
-    told false w at apart =
-        quiet_groups w.tier (changed (alone x.place) (unloaded (gone_keys w x) false) w.tier).groups
-        (alike_changed (alone x.place) (unloaded (gone_keys w x) false) (λ g. record { def = refl; state = λ r. refl; loaded = refl }) 0 w.tier.groups)
+    (settles_goes (IsAt x.place x.group) (unload_entries all x.group) (unload_answer x all) (at_of_tier x.place x.group) (unload_tells x all)) w w' early reply j apart at q ok
 
 pub unloads_kept : (s : Session) (u : OfGroup) → KeepsJournal (Unloads s u)
 unloads_kept s u w w' early reply stands j apart q ok = unloads_target s q.target (asks_all u.which) w w' early reply j apart q.group q.does ok

@@ -16,3 +16,9 @@ pub mod DueStatements
 pub mod PassedStatements
 pub mod ConsoleStatements
 pub mod AskedLaws
+pub mod BrokenParts
+pub mod BrokenGroups
+pub mod BrokenRounds
+pub mod BrokenCommits
+pub mod BrokenQueries
+pub mod BrokenDue

@@ -26,7 +26,7 @@ use Rattle.line_laws.specs.Keeping.{KeepsJournal}
 use Rattle.line_laws.proofs.PartWords.{Any, Goes, GoesPart, GoesStage, match_goes, quiet_goes, reads_goes, same_goes, still_quiet, then_goes, unless_goes}
 use Rattle.line_laws.proofs.QuietTiers.{alike_one, alike_where, refreshed_quiet, set_tried_groups, set_tried_quiet}
 use Rattle.line_laws.proofs.RoundLaws.{Rounded, round_goes}
-use Rattle.line_laws.proofs.TellingLaws.{IsAt, IsLoadedAs, Told, at_of_tier, load_told, settles_goes}
+use Rattle.line_laws.proofs.TellingLaws.{IsAt, IsLoadedAs, Tells, Told, at_of_tier, load_told, settles_goes}
 
 -- ---- rounds as stages
 
@@ -69,29 +69,36 @@ flagged g h k def state loaded = by (has_flag k) refl
     by false e = record { def = def; state = state; loaded = loaded ∙ ap (λ b. cond b true g.loaded) (sym (sym kind ∙ e)) }
 
 -- a READONLY group
-loaded_goes : (x : Target) (n : ℕ) (change : TableState → Group → Group) (answer : World → Answer) → ((s : TableState) (g : Group) → IsAlike g (change s g)) → ((w : World) → (answer w).0 ≡ loaded_tier x n change w) → GoesPart (IsAt x.place x.group) (Settles x answer)
-loaded_goes x n change answer same is =
-    settles_goes (IsAt x.place x.group) (load_entries x.group) answer (at_of_tier x.place x.group)
-    (λ w at apart. subst (Told (load_entries x.group) w.tier) (sym (is w))
+pub loaded_tells : (x : Target) (n : ℕ) (change : TableState → Group → Group) (answer : World → Answer) → ((s : TableState) (g : Group) → IsAlike g (change s g)) → ((w : World) → (answer w).0 ≡ loaded_tier x n change w) → Tells (IsAt x.place x.group) (load_entries x.group) (λ w. (answer w).0)
+loaded_tells x n change answer same is w at apart =
+    subst (Told (load_entries x.group) w.tier) (sym (is w))
     (load_told w.tier (refreshed (loaded_with x.group x.place) n (backing_at w n) w.tier) x.place x.group (λ g. with_flag true (state_loaded (change (backing_at w n) g))) at apart (refreshed_quiet (loaded_with x.group x.place) n (backing_at w n) w.tier)
     (λ h a. (let c = same (backing_at w n) h in flagged x.group h (state_loaded (change (backing_at w n) h)) (c.def ∙ a.def)
-    (λ r. ap loaded_state (c.state (alike_kind x.group h a ∙ r) ∙ a.state r)) (c.loaded ∙ a.loaded)))))
+    (λ r. ap loaded_state (c.state (alike_kind x.group h a ∙ r) ∙ a.state r)) (c.loaded ∙ a.loaded))))
+
+loaded_goes : (x : Target) (n : ℕ) (change : TableState → Group → Group) (answer : World → Answer) → ((s : TableState) (g : Group) → IsAlike g (change s g)) → ((w : World) → (answer w).0 ≡ loaded_tier x n change w) → GoesPart (IsAt x.place x.group) (Settles x answer)
+loaded_goes x n change answer same is = settles_goes (IsAt x.place x.group) (load_entries x.group) answer (at_of_tier x.place x.group) (loaded_tells x n change answer same is)
 
 -- a writethrough one
-added_goes : (x : Target) (answer : World → Answer) (change : World → Group → Group) → is_read_only x.group ≡ false → ((w : World) (g : Group) → IsAlike g (change w g)) → ((w : World) → (answer w).0 ≡ changed (alone x.place) (λ g. with_flag true (change w g)) w.tier) → GoesPart (IsAt x.place x.group) (Settles x answer)
-added_goes x answer change kind same is =
-    settles_goes (IsAt x.place x.group) (load_entries x.group) answer (at_of_tier x.place x.group)
-    (λ w at apart. subst (Told (load_entries x.group) w.tier) (sym (is w))
+pub added_tells : (x : Target) (answer : World → Answer) (change : World → Group → Group) → is_read_only x.group ≡ false → ((w : World) (g : Group) → IsAlike g (change w g)) → ((w : World) → (answer w).0 ≡ changed (alone x.place) (λ g. with_flag true (change w g)) w.tier) → Tells (IsAt x.place x.group) (load_entries x.group) (λ w. (answer w).0)
+added_tells x answer change kind same is w at apart =
+    subst (Told (load_entries x.group) w.tier) (sym (is w))
     (load_told w.tier w.tier x.place x.group (λ g. with_flag true (change w g)) at apart (still_quiet w.tier)
-    (λ h a. (let c = same w h in flagged x.group h (change w h) (c.def ∙ a.def) (λ r. (let bad : false ≡ true = sym kind ∙ r in Prim.cc)) (c.loaded ∙ a.loaded)))))
+    (λ h a. (let c = same w h in flagged x.group h (change w h) (c.def ∙ a.def) (λ r. (let bad : false ≡ true = sym kind ∙ r in Prim.cc)) (c.loaded ∙ a.loaded))))
 
-keys_alike : (now : List (List Value)) (g : Group) → IsAlike g (record g { keys = now })
+added_goes : (x : Target) (answer : World → Answer) (change : World → Group → Group) → is_read_only x.group ≡ false → ((w : World) (g : Group) → IsAlike g (change w g)) → ((w : World) → (answer w).0 ≡ changed (alone x.place) (λ g. with_flag true (change w g)) w.tier) → GoesPart (IsAt x.place x.group) (Settles x answer)
+added_goes x answer change kind same is = settles_goes (IsAt x.place x.group) (load_entries x.group) answer (at_of_tier x.place x.group) (added_tells x answer change kind same is)
+
+pub keys_alike : (now : List (List Value)) (g : Group) → IsAlike g (record g { keys = now })
 keys_alike now g = record { def = refl; state = λ r. refl; loaded = refl }
+
+-- the group stays at its place where the call was tried
+pub target_stays : (x : Target) (w w' : World) → IsAt x.place x.group w → w'.tier ≡ set_tried x.group w.tier → IsAt x.place x.group w'
+target_stays x w w' at e = ap (λ (t : Tier). slice_get t.groups x.place) e ∙ ap (λ l. slice_get l x.place) (set_tried_groups x.group w.tier) ∙ at
 
 reads_target : (x : Target) (next : ℕ → Part) → ((n : ℕ) → GoesPart (IsAt x.place x.group) (next n)) → GoesPart (IsAt x.place x.group) (Reads (set_tried x.group) next)
 reads_target x next so =
-    reads_goes (IsAt x.place x.group) (IsAt x.place x.group) (set_tried x.group) next (set_tried_quiet x.group)
-    (λ w w' at e. ap (λ (t : Tier). slice_get t.groups x.place) e ∙ ap (λ l. slice_get l x.place) (set_tried_groups x.group w.tier) ∙ at) so
+    reads_goes (IsAt x.place x.group) (IsAt x.place x.group) (set_tried x.group) next (set_tried_quiet x.group) (target_stays x) so
 
 reads_as_it_was : (x : Target) (next : ℕ → Part) → ((n : ℕ) → GoesPart (IsAt x.place x.group) (next n)) → GoesPart (IsAt x.place x.group) (Reads as_it_was next)
 reads_as_it_was x next so =
@@ -103,6 +110,11 @@ unless_here P fault part so w w' early reply j apart p q ok = unless_goes P (fau
 
 -- ---- LOAD
 
+pub gained_tells : (x : Target) (n : ℕ) → Tells (IsAt x.place x.group) (load_entries x.group) (λ w. (gained_answer x n w).0)
+gained_tells x n w at apart =
+    load_told w.tier (refreshed (loaded_with x.group x.place) n (backing_at w n) w.tier) x.place x.group (λ g. with_flag true (state_loaded (gains (keys (matching_past (backing_at w n) x)) (backing_at w n) g))) at apart (refreshed_quiet (loaded_with x.group x.place) n (backing_at w n) w.tier)
+    (λ h a. flagged x.group h (state_loaded (gains (keys (matching_past (backing_at w n) x)) (backing_at w n) h)) a.def (λ r. ap loaded_state (a.state r)) a.loaded)
+
 loads_read_only : (x : Target) → GoesPart (IsAt x.place x.group) (LoadsReadOnly x)
 loads_read_only x =
     reads_target x _
@@ -110,13 +122,7 @@ loads_read_only x =
     (λ w w' reply. Unless (overflow_fault x.filter (view_roots (backing_at w n) x)) (Settles x (gained_answer x n)) w w' reply)
     (loaded_goes x n (λ s g. g) (whole_answer x n) (λ s g. alike_one g) (λ w. refl))
     (unless_here (IsAt x.place x.group) (λ w. overflow_fault x.filter (view_roots (backing_at w n) x)) (Settles x (gained_answer x n))
-    (settles_gained n)))
-  where
-    settles_gained : (n : ℕ) → GoesPart (IsAt x.place x.group) (Settles x (gained_answer x n))
-    settles_gained n =
-        settles_goes (IsAt x.place x.group) (load_entries x.group) (gained_answer x n) (at_of_tier x.place x.group)
-        (λ w at apart. load_told w.tier (refreshed (loaded_with x.group x.place) n (backing_at w n) w.tier) x.place x.group (λ g. with_flag true (state_loaded (gains (keys (matching_past (backing_at w n) x)) (backing_at w n) g))) at apart (refreshed_quiet (loaded_with x.group x.place) n (backing_at w n) w.tier)
-        (λ h a. flagged x.group h (state_loaded (gains (keys (matching_past (backing_at w n) x)) (backing_at w n) h)) a.def (λ r. ap loaded_state (a.state r)) a.loaded))
+    (settles_goes (IsAt x.place x.group) (load_entries x.group) (gained_answer x n) (at_of_tier x.place x.group) (gained_tells x n))))
 
 loads_writethrough : (x : Target) → is_read_only x.group ≡ false → GoesPart (StandsAt x.place x.group) (LoadsWritethrough x)
 loads_writethrough x kind =
@@ -152,23 +158,26 @@ refreshes_read_only x =
 abbrev pub refreshed_change : Target → ℕ → World → Group → Group
 refreshed_change x n w g = cond (is_explicit x.group) (record g { keys = with_keys (keys (matching (backing_at w n) x)) g.keys }) g
 
-abbrev added_keys : Target → ℕ → World → Group → Group
+abbrev pub added_keys : Target → ℕ → World → Group → Group
 added_keys x n w g = record g { keys = with_keys (keys (matching (backing_at w n) x)) g.keys }
+
+pub refreshed_is : (x : Target) (n : ℕ) (w : World) → (refreshed_answer x n w).0 ≡ changed (alone x.place) (λ g. with_flag true (refreshed_change x n w g)) w.tier
+refreshed_is x n w = by (is_explicit x.group) refl
+  where
+    by : (b : Bool) → is_explicit x.group ≡ b → (refreshed_answer x n w).0 ≡ changed (alone x.place) (λ g. with_flag true (refreshed_change x n w g)) w.tier
+    by true e =
+        ap (λ b. (cond {A = Answer} b (changed (alone x.place) (λ g. with_flag true (added_keys x n w g)) w.tier, only (Done (len (matching (backing_at w n) x)))) (changed (alone x.place) (with_flag true) w.tier, only (Done (len (held_roots x (matching (backing_at w n) x)))))).0) e
+        ∙ sym (ap (λ b. changed (alone x.place) (λ g. with_flag true (cond b (added_keys x n w g) g)) w.tier) e)
+    by false e =
+        ap (λ b. (cond {A = Answer} b (changed (alone x.place) (λ g. with_flag true (added_keys x n w g)) w.tier, only (Done (len (matching (backing_at w n) x)))) (changed (alone x.place) (with_flag true) w.tier, only (Done (len (held_roots x (matching (backing_at w n) x)))))).0) e
+        ∙ sym (ap (λ b. changed (alone x.place) (λ g. with_flag true (cond b (added_keys x n w g) g)) w.tier) e)
 
 refreshes_writethrough : (x : Target) → is_read_only x.group ≡ false → GoesPart (StandsAt x.place x.group) (RefreshesWritethrough x)
 refreshes_writethrough x kind =
     then_goes (StandsAt x.place x.group) (IsAt x.place x.group) RoundIfUnsettled _ (round_if_at x.place x.group)
     (reads_as_it_was x _
     (λ n. unless_here (IsAt x.place x.group) (λ w. overflow_fault x.filter (judged_roots (backing_at w n) x)) (Settles x (refreshed_answer x n))
-    (added_goes x (refreshed_answer x n) (refreshed_change x n) kind (λ w g. alike_where (is_explicit x.group) g _ (keys_alike _ g)) (λ w. by n w (is_explicit x.group) refl))))
-  where
-    by : (n : ℕ) (w : World) (b : Bool) → is_explicit x.group ≡ b → (refreshed_answer x n w).0 ≡ changed (alone x.place) (λ g. with_flag true (refreshed_change x n w g)) w.tier
-    by n w true e =
-        ap (λ b. (cond {A = Answer} b (changed (alone x.place) (λ g. with_flag true (added_keys x n w g)) w.tier, only (Done (len (matching (backing_at w n) x)))) (changed (alone x.place) (with_flag true) w.tier, only (Done (len (held_roots x (matching (backing_at w n) x)))))).0) e
-        ∙ sym (ap (λ b. changed (alone x.place) (λ g. with_flag true (cond b (added_keys x n w g) g)) w.tier) e)
-    by n w false e =
-        ap (λ b. (cond {A = Answer} b (changed (alone x.place) (λ g. with_flag true (added_keys x n w g)) w.tier, only (Done (len (matching (backing_at w n) x)))) (changed (alone x.place) (with_flag true) w.tier, only (Done (len (held_roots x (matching (backing_at w n) x)))))).0) e
-        ∙ sym (ap (λ b. changed (alone x.place) (λ g. with_flag true (cond b (added_keys x n w g) g)) w.tier) e)
+    (added_goes x (refreshed_answer x n) (refreshed_change x n) kind (λ w g. alike_where (is_explicit x.group) g _ (keys_alike _ g)) (refreshed_is x n))))
 
 pub refreshes_kept : (load : Load) → KeepsJournal (Refreshes load)
 refreshes_kept load w w' early reply stands j apart q ok =

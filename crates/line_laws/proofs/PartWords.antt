@@ -153,11 +153,11 @@ call_goes Q w w' early step so j apart call quiet q = record {
   holds = q;
 }
 
-position_quiet : (result : Result ℕ BankError) (old new : List Entry) → TellsPosition result old new → Grows [] old new
+pub position_quiet : (result : Result ℕ BankError) (old new : List Entry) → TellsPosition result old new → Grows [] old new
 position_quiet (Ok n) old new p = p.0
 position_quiet (Err e) old new p = p
 
-quiet_as : (t t' t'' : Tier) → t' ≡ t'' → IsQuiet t t'' → IsQuiet t t'
+pub quiet_as : (t t' t'' : Tier) → t' ≡ t'' → IsQuiet t t'' → IsQuiet t t'
 quiet_as t t' t'' e quiet = subst (IsQuiet t) (sym e) quiet
 
 pub reads_goes : (P : World → Type 0) (Q : World → Type 0) (tried : Tier → Tier) (next : ℕ → Part) → ((t : Tier) → IsQuiet t (tried t)) → ((w w' : World) → P w → w'.tier ≡ tried w.tier → Q w') → ((n : ℕ) → GoesPart Q (next n)) → GoesPart P (Reads tried next)

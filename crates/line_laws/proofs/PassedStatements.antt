@@ -46,10 +46,14 @@ use Rattle.line_laws.proofs.PartWords.{IsBeside, same_on, still_quiet, unshared_
 abbrev numbered : ℕ → List Op → Sealed
 numbered ticket ops = record { ticket = record { 0 = ticket }; ops = ops }
 
+-- the number of a write that is passed on is flushed, and the ticket drawn
+pub number_flushed : (w m : World) (early : List Sealed) → Stands w → IsJournalled w early → IsWhole (Numbers w.tier.next ∷ []) w m → IsJournalledOn (record w { tier = with_ticket w.tier; journal = m.journal }) early
+number_flushed w m early stands j is =
+    number_kept w early (with_ticket w.tier) m.journal stands j (record { kept = is.journal.batch.kept ∙ j.kept; flushed = is.journal.batch.flushed; tail = is.journal.batch.tail; way = is.journal.way }) (still_quiet (with_ticket w.tier))
+
 module _ (placed : PlacedChange) (w : World) (early : List Sealed) (stands : Stands w) (j : IsJournalled w early) (apart : IsUnshared w) (off : IsOffLive placed w) (m : World) (is : IsWhole (Numbers w.tier.next ∷ []) w m) where
-  -- the number is flushed, and the ticket drawn
   on : IsJournalledOn (record w { tier = with_ticket w.tier; journal = m.journal }) early
-  on = number_kept w early (with_ticket w.tier) m.journal stands j (record { kept = is.journal.batch.kept ∙ j.kept; flushed = is.journal.batch.flushed; tail = is.journal.batch.tail; way = is.journal.way }) (still_quiet (with_ticket w.tier))
+  on = number_flushed w m early stands j is
 
   -- nothing came
   without : (w' : World) (t : Tier) (before middle behind : List Entry) → AreOthers w.shared w.history before → Grows [] (w.history ++ before) middle → AreOthers w.shared middle behind → w'.history ≡ middle ++ behind → IsBeside m w' → w'.tier ≡ t → IsQuiet (with_ticket w.tier) t → IsJournalledOn w' early

@@ -72,7 +72,7 @@ found_alike s want g = record { def = refl; state = λ r. refl; loaded = refl }
 found_quiet : (place : ℕ) (s : TableState) (want : Want) (t : Tier) → IsQuiet t (with_found_at place s want t)
 found_quiet place s want t = quiet_groups t (changed_from (alone place) (with_found s want) 0 t.groups) (alike_changed (alone place) (with_found s want) (found_alike s want) 0 t.groups)
 
-joined_told : (place : ℕ) (g : Group) (want : Want) (n : ℕ) (w : World) → IsAt place g w → Rattle.recovery.proofs.NewestLaws.NamesApart w.tier.groups → Told (state_entries g) w.tier (joined_tier place g want n w)
+pub joined_told : (place : ℕ) (g : Group) (want : Want) (n : ℕ) (w : World) → IsAt place g w → Rattle.recovery.proofs.NewestLaws.NamesApart w.tier.groups → Told (state_entries g) w.tier (joined_tier place g want n w)
 joined_told place g want n w at apart =
     told_then (state_entries g) w.tier (changed (alone place) state_loaded (refreshed (of_set g.def.interval (Some place)) n (backing_at w n) w.tier)) (joined_tier place g want n w)
     (on_told w.tier (refreshed (of_set g.def.interval (Some place)) n (backing_at w n) w.tier) place g state_loaded at apart (refreshed_quiet (of_set g.def.interval (Some place)) n (backing_at w n) w.tier)
@@ -87,10 +87,13 @@ joined_tables place g want n w u =
     ∙ tables_same (alone place) state_loaded (λ h. refl) 0 one u
     ∙ tables_same (alone place) (with_found (backing_at w n) want) (λ h. refl) 0 two u
 
+-- the group stays at its place where the call was tried
+pub set_stays : (place : ℕ) (g : Group) (w w' : World) → IsAt place g w → w'.tier ≡ set_tried g w.tier → IsAt place g w'
+set_stays place g w w' at e = ap (λ (t : Tier). slice_get t.groups place) e ∙ ap (λ l. slice_get l place) (set_tried_groups g w.tier) ∙ at
+
 brings_read_only : (place : ℕ) (g : Group) (want : Want) → GoesStage (IsAt place g) Any (BringsReadOnly place g want)
 brings_read_only place g want =
-    reads_first_goes (IsAt place g) (IsAt place g) Any (set_tried g) (λ n. ThenStage (FlushesSome (state_entries g)) (Becomes (joined_tier place g want n))) (set_tried_quiet g)
-    (λ w w' at e. ap (λ (t : Tier). slice_get t.groups place) e ∙ ap (λ l. slice_get l place) (set_tried_groups g w.tier) ∙ at) (λ w p. tt)
+    reads_first_goes (IsAt place g) (IsAt place g) Any (set_tried g) (λ n. ThenStage (FlushesSome (state_entries g)) (Becomes (joined_tier place g want n))) (set_tried_quiet g) (set_stays place g) (λ w p. tt)
     (λ n. becomes_told (IsAt place g) (state_entries g) (joined_tier place g want n) (at_of_tier place g) (λ w at apart. joined_told place g want n w at apart) (λ w at same u. joined_tables place g want n w u))
 
 brings_writethrough : (place : ℕ) (g : Group) (want : Want) → GoesStage (StandsAt place g) Any (BringsWritethrough place want)

@@ -11,7 +11,7 @@ use Rattle.order_laws.proofs.TruthLaws.{both_true}
 use Rattle.cache_tier.specs.declared.reply.Reply.{Reply}
 use Rattle.cache_tier.specs.Events.{at_history, settled_to}
 use Rattle.cache_tier.specs.JournalSteps.{Flushes}
-use Rattle.cache_tier.specs.Rotations.{Broken, Kept, Renewed, Rotates, Rotation, RotatesIfLong, is_long, is_settled, journal_after, rotation_stop}
+use Rattle.cache_tier.specs.Rotations.{Broken, Kept, Renewed, Rotates, Rotation, RotatesIfLong, is_long, is_settled, journal_after, renewed}
 use Rattle.cache_tier.specs.Rounds.{AllLeft, Applies, AppliesAndRotates, Differing, Drained, Failing, Round, RoundEnd, Wanting, both_stop, round_stop}
 use Rattle.cache_tier.specs.StandingBetween.{Stands, live_groups_of}
 use Rattle.cache_tier.specs.TierStates.{Tier}
@@ -23,7 +23,7 @@ use Rattle.recovery.proofs.OthersLaws.{on_then, one_journalled_on}
 use Rattle.recovery.proofs.RotatedLaws.{rotation_kept}
 use Rattle.recovery.proofs.RoundedLaws.{round_kept}
 use Rattle.line_laws.specs.Keeping.{is_broken}
-use Rattle.line_laws.proofs.FlushLaws.{IsWhole, kept_flushes, tail_flushed}
+use Rattle.line_laws.proofs.FlushLaws.{IsWhole, flushes_whole, tail_flushed}
 use Rattle.line_laws.proofs.MixedLaws.{round_events}
 use Rattle.line_laws.proofs.PartWords.{stays_on}
 
@@ -123,22 +123,26 @@ long_settled w e =
     let long = (both_true w.journal.kept (nat_lt w.tier.settings.rotate_bytes w.journal.written && is_settled w) e).1 in
     none_long w.tier.unsettled (both_true (nat_lt w.tier.settings.rotate_bytes w.journal.written) (is_settled w) long).1
 
-rotated : (w mid w' : World) (early : List Sealed) (turned : Option Reply) → Rounded w mid early → mid.journal.tail ≡ [] → RotatesIfLong mid w' turned → is_broken turned ≡ false → Rounded w w' early
-rotated w mid w' early turned r none q ok = by (is_long mid) refl q
+rotated : (w mid w' : World) (early : List Sealed) (turned : Option Reply) → Rounded w mid early → mid.journal.tail ≡ [] → RotatesIfLong mid w' turned → Rounded w w' early
+rotated w mid w' early turned r none q = by (is_long mid) refl q
   where
     from : (w' : World) → w'.tier ≡ mid.tier → w'.history ≡ mid.history → w'.shared ≡ mid.shared → IsJournalledOn w' early → Rounded w w' early
     from w' tier history shared on = record { on = on; stands = stands_one mid w' tier history r.stands; left = r.left; moment = r.moment; tier = tier ∙ r.tier; shared = shared ∙ r.shared }
 
     turn : mid.tier.unsettled ≡ [] → Rotates mid w' turned → Rounded w w' early
-    turn settled k = go k.result k.journal k.end
+    turn settled k = go k.result k.journal
       where
-        go : (result : Rotation) → w'.journal ≡ journal_after result mid → turned ≡ rotation_stop result → Rounded w w' early
-        go Renewed e s = from w' k.tier k.history k.shared (one_journalled_on (record mid { journal = w'.journal }) w' early (record { tier = k.tier; history = k.history; journal = refl; shared = k.shared })
+        -- done, or failed: the slots may have what is new
+        begun : w'.journal ≡ renewed mid → Rounded w w' early
+        begun e = from w' k.tier k.history k.shared (one_journalled_on (record mid { journal = w'.journal }) w' early (record { tier = k.tier; history = k.history; journal = refl; shared = k.shared })
             (on_then (record mid { journal = w'.journal }) early r.on.now r.on.more r.on.grows
             (rotation_kept mid r.on.now w'.journal r.stands r.on.is none settled
             (subst (Rattle.recovery.specs.Journalled.IsRenewed mid.tier (length mid.history) mid.journal) (sym e) (record { kept = r.on.is.kept; flushed = refl; tail = refl; way = refl })))))
-        go Kept e s = from w' k.tier k.history k.shared (one_journalled_on mid w' early (record { tier = k.tier; history = k.history; journal = e; shared = k.shared }) r.on)
-        go Broken e s = let bad : true ≡ false = ap is_broken (sym s) ∙ ok in Prim.cc
+
+        go : (result : Rotation) → w'.journal ≡ journal_after result mid → Rounded w w' early
+        go Renewed e = begun e
+        go Kept e = from w' k.tier k.history k.shared (one_journalled_on mid w' early (record { tier = k.tier; history = k.history; journal = e; shared = k.shared }) r.on)
+        go Broken e = begun e
 
     by : (b : Bool) → is_long mid ≡ b → OnlyWhere b Rotates mid w' turned → Rounded w w' early
     by true e q = turn (long_settled mid e) q
@@ -148,22 +152,23 @@ both_none : (one other : Option Reply) → both_stop one other ≡ None → one 
 both_none one None e = e
 both_none one (Some r) e = Prim.cc
 
-both_broken : (one other : Option Reply) → is_broken (both_stop one other) ≡ false → is_broken other ≡ false
-both_broken one None e = refl
-both_broken one (Some r) e = e
+-- the tail is flushed, and no more is done
+round_flushed : (w w' : World) (early : List Sealed) → Stands w → IsJournalled w early → IsWhole [] w w' → Rounded w w' early
+round_flushed w w' early x j is = record { on = tail_flushed w w' early j is; stands = stands_one w w' is.tier is.history x; left = w.tier.unsettled; moment = w.tier.round; tier = is.tier; shared = is.shared }
 
--- a round is done, and the journal is the tier's
-pub round_goes : (w w' : World) (early : List Sealed) (stop : Option Reply) → Stands w → IsJournalled w early → IsUnshared w → Round w w' stop → is_broken stop ≡ false → Rounded w w' early × (stop ≡ None → w'.tier.unsettled ≡ [])
-round_goes w w' early stop x j apart q ok = by q.stop q.first q.next
+-- a round is done, or a call of the disk failed in it: the journal is the tier's
+pub round_leaves : (w w' : World) (early : List Sealed) (stop : Option Reply) → Stands w → IsJournalled w early → IsUnshared w → Round w w' stop → Rounded w w' early × (stop ≡ None → w'.tier.unsettled ≡ [])
+round_leaves w w' early stop x j apart q = by q.stop q.first q.next
   where
     by : (end : Option Reply) → Flushes [] w q.mid end → StageFollows end AppliesAndRotates q.mid w' stop → Rounded w w' early × (stop ≡ None → w'.tier.unsettled ≡ [])
-    by (Some r) first next =
-        let bad : Some r ≡ None = (kept_flushes [] w q.mid (Some r) j.kept first (ap is_broken (sym next.1) ∙ ok)).1 in
-        Prim.cc
+    by (Some r) first next = (
+      round_flushed w w' early x j (subst (IsWhole [] w) (sym next.0) (flushes_whole [] w q.mid (Some r) j.kept first)),
+      λ e. (let bad : Some r ≡ None = sym next.1 ∙ e in Prim.cc),
+    )
     by None first next = (record { on = on_then w' early flushed.now flushed.more flushed.grows turned.on; stands = turned.stands; left = turned.left; moment = turned.moment; tier = turned.tier ∙ ap (λ (t : Tier). record t { unsettled = turned.left; round = turned.moment }) is.tier; shared = turned.shared ∙ is.shared }, drained)
       where
         is : IsWhole [] w q.mid
-        is = (kept_flushes [] w q.mid None j.kept first refl).0
+        is = flushes_whole [] w q.mid None j.kept first
 
         flushed : IsJournalledOn q.mid early
         flushed = tail_flushed w q.mid early j is
@@ -178,7 +183,7 @@ round_goes w w' early stop x j apart q ok = by q.stop q.first q.next
         ended e = drained_end q.mid.tier next.applies.result next.mid.tier.unsettled next.applies.all (sym next.applies.end ∙ e)
 
         turned : Rounded q.mid w' flushed.now
-        turned = rotated q.mid next.mid w' flushed.now next.turned one (ap (λ (k : Rattle.cache_tier.specs.Journals.Journal). k.tail) next.applies.journal ∙ is.journal.batch.tail) next.rotates (both_broken next.applied next.turned (ap is_broken (sym next.end) ∙ ok))
+        turned = rotated q.mid next.mid w' flushed.now next.turned one (ap (λ (k : Rattle.cache_tier.specs.Journals.Journal). k.tail) next.applies.journal ∙ is.journal.batch.tail) next.rotates
 
         same_tier : w'.tier ≡ next.mid.tier
         same_tier = by_long (is_long next.mid) next.rotates
@@ -189,3 +194,7 @@ round_goes w w' early stop x j apart q ok = by q.stop q.first q.next
 
         drained : stop ≡ None → w'.tier.unsettled ≡ []
         drained e = ap (λ (t : Tier). t.unsettled) same_tier ∙ ended (both_none next.applied next.turned (sym next.end ∙ e))
+
+-- so it is where no call of the disk failed
+pub round_goes : (w w' : World) (early : List Sealed) (stop : Option Reply) → Stands w → IsJournalled w early → IsUnshared w → Round w w' stop → is_broken stop ≡ false → Rounded w w' early × (stop ≡ None → w'.tier.unsettled ≡ [])
+round_goes w w' early stop x j apart q ok = round_leaves w w' early stop x j apart q

@@ -1,5 +1,5 @@
 -- STATEs and flags that are flushed, and the change that they tell of.
-use Rattle.std.proofs.Common.{◌≡◌, ℕ, Bool, true, false, cond, ◌&&◌, not, ◌≤◌, Option, Some, None, List, [], ◌∷◌, ◌++◌, length, map, slice_get, refl, sym, ap, subst, ◌∙◌, arith, append-nil, append_assoc}
+use Rattle.std.proofs.Common.{◌≡◌, ℕ, Bool, true, false, cond, ◌&&◌, not, Option, Some, None, List, [], ◌∷◌, ◌++◌, length, map, slice_get, refl, sym, ap, subst, ◌∙◌, arith, append-nil, append_assoc}
 use Rattle.std.specs.Bool.{MatchBool}
 use Rattle.std.proofs.lemmas.Bool.{lt-ltb}
 use Rattle.tier_base.specs.declared.code.Code.TheVariants as code
@@ -45,18 +45,6 @@ Told (Numbers n ∷ entries) t t' = ⊥
 Told (Marks n ∷ entries) t t' = ⊥
 Told (Defines d text ∷ entries) t t' = ⊥
 Told (Drops name ∷ entries) t t' = ⊥
-
--- no ticket is taken back
-told_next : (entries : List JournalEntry) (t t' : Tier) → Told entries t t' → t.next ≤ t'.next
-told_next [] t t' told = told.next
-told_next (SetsState name state ∷ entries) t t' told = told_next entries (with_group name (with_state state) t) t' told
-told_next (SetsLoaded name flag ∷ entries) t t' told = told_next entries (with_group name (with_loaded flag) t) t' told
-told_next (Commits s ∷ entries) t t' told = absurd told
-told_next (Prepares s ∷ entries) t t' told = absurd told
-told_next (Numbers n ∷ entries) t t' told = absurd told
-told_next (Marks n ∷ entries) t t' told = absurd told
-told_next (Defines d text ∷ entries) t t' told = absurd told
-told_next (Drops name ∷ entries) t t' told = absurd told
 
 -- what is unshared of it is so of the first
 told_back : (shared : List TableId) (entries : List JournalEntry) (t t' : Tier) → Told entries t t' → StaysUnshared shared t.groups t'.groups
@@ -119,7 +107,7 @@ told_kept entries w early t new j f told =
     let on = told_bare entries (wayless w) early t new refl (without_way w early j) (record { kept = f.batch.kept; flushed = f.batch.flushed; tail = f.batch.tail }) told in
     record {
       now = on.now;
-      is = safely (record w { tier = t; journal = new }) on.now on.is (flush_safe w t new on.now entries j.safe on.is (told_next entries w.tier t told) (told_back w.shared entries w.tier t told) f.batch.flushed f.way);
+      is = safely (record w { tier = t; journal = new }) on.now on.is (flush_safe w t new on.now entries j.safe on.is (told_back w.shared entries w.tier t told) f.batch.flushed f.way);
       more = on.more;
       grows = on.grows;
     }
@@ -152,7 +140,7 @@ Tells P entries change = (w : World) → P w → NamesApart w.tier.groups → To
 abbrev pub IsOfTier : (World → Type 0) → Type 0
 IsOfTier P = (w w' : World) → w'.tier ≡ w.tier → P w → P w'
 
-whole_told : (P : World → Type 0) (entries : List JournalEntry) (change : World → Tier) (w mid : World) (early : List Sealed) → IsOfTier P → Tells P entries change → IsJournalled w early → P w → IsWhole entries w mid → IsJournalledOn (record mid { tier = change mid }) early
+pub whole_told : (P : World → Type 0) (entries : List JournalEntry) (change : World → Tier) (w mid : World) (early : List Sealed) → IsOfTier P → Tells P entries change → IsJournalled w early → P w → IsWhole entries w mid → IsJournalledOn (record mid { tier = change mid }) early
 whole_told P entries change w mid early of so j p is =
     one_journalled_on (record w { tier = change mid; journal = mid.journal }) (record mid { tier = change mid }) early (record { tier = refl; history = is.history; journal = refl; shared = is.shared })
     (told_kept entries w early (change mid) mid.journal j is.journal

@@ -26,7 +26,8 @@ use Rattle.cache_tier.specs.DueWork.{Item}
 use Rattle.cache_tier.specs.Groups.{definitions_of}
 use Rattle.cache_tier.specs.StandingBetween.{Stands, live_groups_of}
 use Rattle.cache_tier.specs.Steps.{tells}
-use Rattle.cache_tier.specs.TierStates.{Session, session_of}
+use Rattle.cache_tier.specs.Events.{with_tier}
+use Rattle.cache_tier.specs.TierStates.{Session, Tier, session_of}
 use Rattle.cache_tier.specs.Worlds.{IsUnshared, Part, Stage, World}
 use Rattle.recovery.specs.Journalled.{IsJournalled, IsJournalledOn}
 use Rattle.recovery.specs.Recalling.{group_of}
@@ -43,11 +44,46 @@ abbrev pub is_broken : Option Reply → Bool
 is_broken None = false
 is_broken (Some reply) = tells code.JournalFault reply.last
 
+-- A call of the journal's disk failed: the journal has what may be there. So it is that of a tier, perhaps of the one
+-- that the line would have left; and what was held is held.
+pub record IsBrokenOff (w : World) (early : List Sealed) : Type 0 where
+  pub tier : Tier
+  pub on : IsJournalledOn (with_tier tier w) early
+
+-- so it is where a part ended the run
+abbrev pub BreaksJournal : Part → Type 0
+BreaksJournal part =
+    (w w' : World) (early : List Sealed) (reply : Reply) → Stands w → IsJournalled w early → IsUnshared w
+    → part w w' reply → tells code.JournalFault reply.last ≡ true → IsBrokenOff w' early
+
+-- the same where this holds of the world
+abbrev pub BreaksJournalWhere : (World → Type 0) → Part → Type 0
+BreaksJournalWhere P part =
+    (w w' : World) (early : List Sealed) (reply : Reply) → Stands w → IsJournalled w early → IsUnshared w → P w
+    → part w w' reply → tells code.JournalFault reply.last ≡ true → IsBrokenOff w' early
+
+-- the same of a statement of an open session
+abbrev pub BreaksJournalOf : Session → Part → Type 0
+BreaksJournalOf s part =
+    (w w' : World) (early : List Sealed) (reply : Reply) → Stands w → IsJournalled w early → IsUnshared w
+    → session_of w.tier s.label ≡ Some s → part w w' reply → tells code.JournalFault reply.last ≡ true
+    → IsBrokenOff w' early
+
 -- the same of an item of due work
 abbrev pub KeepsJournalDue : Item → Type 0
 KeepsJournalDue item =
     (w w' : World) (early : List Sealed) (notes : List Note) (stop : Option Reply) → Stands w → IsJournalled w early
     → IsUnshared w → item w w' notes stop → is_broken stop ≡ false → IsJournalledOn w' early
+
+abbrev pub BreaksJournalDue : Item → Type 0
+BreaksJournalDue item =
+    (w w' : World) (early : List Sealed) (notes : List Note) (stop : Option Reply) → Stands w → IsJournalled w early
+    → IsUnshared w → item w w' notes stop → is_broken stop ≡ true → IsBrokenOff w' early
+
+-- an item in which no call of the journal's disk fails
+abbrev pub NeverBreaks : Item → Type 0
+NeverBreaks item =
+    (w w' : World) (notes : List Note) (stop : Option Reply) → item w w' notes stop → is_broken stop ≡ false
 
 -- the same, whether the tier stands or not, as where a commit is in doubt
 abbrev pub KeepsJournalInDoubt : Item → Type 0
@@ -114,3 +150,9 @@ abbrev pub KeepsJournalAt : Stage → Type 0
 KeepsJournalAt stage =
     (w w' : World) (early : List Sealed) (stop : Option Reply) → Stands w → IsJournalled w early → IsUnshared w
     → stage w w' stop → is_broken stop ≡ false → IsJournalledOn w' early
+
+-- whether the tier stands or not
+abbrev pub BreaksJournalAt : Stage → Type 0
+BreaksJournalAt stage =
+    (w w' : World) (early : List Sealed) (stop : Option Reply) → IsJournalled w early → IsUnshared w
+    → stage w w' stop → is_broken stop ≡ true → IsBrokenOff w' early

@@ -1,6 +1,6 @@
 //! Laws of lines, each on the contract of a function that does nothing. They are this project's rules.
 
-ghost use Rattle.std.specs.Prelude.{List, ℕ};
+ghost use Rattle.std.specs.Prelude.{◌≡◌, List, [], ℕ};
 ghost use Rattle.std.specs.Prelude.{Ok};
 ghost use Rattle.table_defs.specs.declared.definition.TableDef.{TableDef};
 ghost use Rattle.resolution.specs.Writes.{PlacedChange};
@@ -30,7 +30,7 @@ ghost use Rattle.cache_tier.specs.TierStates.{Session};
 ghost use Rattle.cache_tier.specs.UnloadSteps.{Unloads};
 ghost use Rattle.cache_tier.specs.Worlds.{Quiet};
 ghost use Rattle.cache_tier.specs.WriteSteps.{WritesBy};
-ghost use Rattle.line_laws.specs.Keeping.{Anything, AreOffLive, HasNoWrites, IsOffLive, KeepsJournal, KeepsJournalAt, KeepsJournalDue, KeepsJournalInDoubt, KeepsJournalOf, KeepsJournalWhere, MayCreate, MeetsIfAtOnce, MeetsNone, RefersToNone};
+ghost use Rattle.line_laws.specs.Keeping.{Anything, AreOffLive, BreaksJournal, BreaksJournalAt, BreaksJournalDue, BreaksJournalOf, BreaksJournalWhere, HasNoWrites, IsOffLive, KeepsJournal, KeepsJournalAt, KeepsJournalDue, KeepsJournalInDoubt, KeepsJournalOf, KeepsJournalWhere, MayCreate, MeetsIfAtOnce, MeetsNone, NeverBreaks, RefersToNone};
 
 /// The journal stays the tier's where a line changes nothing that an entry tells: OPEN (`opens`), CLOSE (`closes`),
 /// ttOptSetFlag (`sets_level`), ROLLBACK (`rolls_back`), the clock (`clock`), the question for the schema (`asks`).
@@ -103,4 +103,65 @@ pub fn due_line_law()
 /// The journal stays the tier's behind the flush at the end of the input.
 pub fn end_line_law()
     ensures { KeepsJournalAt Finishes }
+{}
+
+/// A call of the journal's disk failed in a part, which ends the run: what may be there is the journal of a tier,
+/// perhaps of the one that the part would have left, and each commit that was held is held. So it is of ALTER CACHE
+/// GROUP (`alters`), UNLOAD CACHE GROUP (`unloads`) and ttCacheAutorefresh (`refreshes_called`).
+pub fn broken_group_law()
+    ensures alters { (a : Alter) → BreaksJournal (Alters a) }
+    ensures unloads { (s : Session) (u : OfGroup) → BreaksJournal (Unloads s u) }
+    ensures refreshes_called { (interval : ℕ) → BreaksJournal (RefreshesCalled interval) }
+{}
+
+/// So it is of a round, and what comes behind one: ttDrain (`drains`), LOAD CACHE GROUP (`loads`), REFRESH CACHE GROUP
+/// (`refreshes`), DROP CACHE GROUP of a session that has no uncommitted writes (`drops`).
+pub fn broken_round_law()
+    ensures drains { BreaksJournal Drains }
+    ensures loads { (load : Load) → BreaksJournal (Loads load) }
+    ensures refreshes { (load : Load) → BreaksJournal (Refreshes load) }
+    ensures drops { (s : Session) (name : List ℕ) → s.own ≡ [] → BreaksJournalOf s (DropsGroup s name) }
+{}
+
+/// So it is of COMMIT of asynchronous writes (`commits_later`), of synchronous ones, whatever is pending
+/// (`commits_now`), of either (`commits`), and of CREATE CACHE GROUP of a group that may come (`creates`).
+pub fn broken_commit_law()
+    ensures commits_later { (s : Session) → BreaksJournalOf s (CommitsLater s) }
+    ensures commits_now { (s : Session) → BreaksJournalOf s (CommitsNow s) }
+    ensures commits { (s : Session) → BreaksJournalOf s (CommitsAll s) }
+    ensures creates { (d : CreateGroup) → BreaksJournalWhere (MayCreate d) (CreatesGroup d) }
+{}
+
+/// So it is of SELECT (`selects`), of INSERT, UPDATE and DELETE in the cache (`writes`), and of a write that is passed
+/// on, whatever tables it touches (`passes_on`).
+pub fn broken_query_law()
+    ensures selects { (s : Session) (q : Query) → BreaksJournal (Selects s q) }
+    ensures writes { (s : Session) (placed : PlacedChange) → BreaksJournal (WritesBy (Ok Cached) s placed) }
+    ensures passes_on { (s : Session) (placed : PlacedChange) → BreaksJournal (PassesOn s placed) }
+{}
+
+/// So it is of the items of due work: the doubt, which writes no record (`doubt`), the round (`round`), the sets
+/// (`sets`), aging (`aging`); and of the flush at the end of the input (`ends`), whether the tier stands or not.
+pub fn broken_due_law()
+    ensures doubt { NeverBreaks DueDoubt }
+    ensures round { BreaksJournalDue DueRound }
+    ensures sets { BreaksJournalDue DueSets }
+    ensures aging { BreaksJournalDue DueAging }
+    ensures ends { BreaksJournalAt Finishes }
+{}
+
+/// So it is of parts that write no record: OPEN (`opens`), CLOSE (`closes`), ttOptSetFlag (`sets_level`), ROLLBACK
+/// (`rolls_back`), the clock (`clock`), the question for the schema (`asks`), CREATE TABLE (`creates`), the console's
+/// writes (`writes`).
+pub fn broken_quiet_law()
+    ensures opens { (label : List ℕ) (options : OpenOptions)
+        → BreaksJournal (λ w w' reply. Quiet (open_answer w.tier label options) w w' reply) }
+    ensures closes { (label : List ℕ) → BreaksJournal (λ w w' reply. Quiet (close_answer w.tier label) w w' reply) }
+    ensures sets_level { (label : List ℕ) (level : ℕ)
+        → BreaksJournal (λ w w' reply. Quiet (flag_answer w.tier label level) w w' reply) }
+    ensures rolls_back { (s : Session) → BreaksJournal (RollsBack s) }
+    ensures clock { BreaksJournal (λ w w' reply. Quiet (clock_answer w.tier) w w' reply) }
+    ensures asks { (l : Line) → BreaksJournalAt (AsksSchema l) }
+    ensures creates { (def : TableDef) → BreaksJournal (Creates def) }
+    ensures writes { (writes : List Write) → BreaksJournal (WritesAll writes) }
 {}

@@ -168,7 +168,7 @@ module _ (w : World) (early : List Sealed) (j : IsJournalled w early) (s : Seale
     pub at_once_journalled : IsJournalledOn (at_history (w.history ++ entry_of s ∷ []) (record w { tier = t })) early
     at_once_journalled = record {
       now = kept.now;
-      is = safely then kept.now at_once_bare (grow_safe w t (entry_of s) kept.now j.safe at_once_bare told.next (unshared_back w.shared w.tier.groups t.groups told.groups));
+      is = safely then kept.now at_once_bare (grow_safe w t (entry_of s) kept.now j.safe at_once_bare (unshared_back w.shared w.tier.groups t.groups told.groups));
       more = kept.more;
       grows = kept.grows;
     }

@@ -234,7 +234,7 @@ module _ (w : World) (early : List Sealed) (j : IsJournalled w early) where
         alike = alike_commit (no_rows (with_ticket w.tier)) s.own j.catalog.groups w.tier.groups j.alike;
         tie = tied_commit w.history w.tier.log notes x fresh j.tie ∙ sym (ap (λ l. pending w.history (log_in w.history l)) notes_then);
         next = subst (λ l. next_behind l ≤ w.tier.next + 1) (sym given_then) higher;
-        safe = still_safe w (committed_unsettled x s.label w.tier) j.safe (omega arith) (unshared_back w.shared w.tier.groups _ (alike_commit (no_rows (with_ticket w.tier)) s.own w.tier.groups w.tier.groups (alike_self w.tier.groups)));
+        safe = still_safe w (committed_unsettled x s.label w.tier) j.safe (unshared_back w.shared w.tier.groups _ (alike_commit (no_rows (with_ticket w.tier)) s.own w.tier.groups w.tier.groups (alike_self w.tier.groups)));
       };
       more = kept.more;
       grows = kept.grows;
@@ -273,7 +273,7 @@ module _ (w : World) (early : List Sealed) (j : IsJournalled w early) where
     flush_journalled = record {
       now = flushed_on.now;
       is = safely (record w { journal = new }) flushed_on.now flush_bare
-          (flush_safe w w.tier new flushed_on.now [] j.safe flush_bare (omega arith) (λ alone. alone) (is.flushed ∙ sym (append-nil (given w.journal))) is.way);
+          (flush_safe w w.tier new flushed_on.now [] j.safe flush_bare (λ alone. alone) (is.flushed ∙ sym (append-nil (given w.journal))) is.way);
       more = flushed_on.more;
       grows = flushed_on.grows;
     }
@@ -311,7 +311,7 @@ module _ (w : World) (early : List Sealed) (j : IsJournalled w early) where
       pub entry_journalled : IsJournalledOn (with_flushed_entry t new w) early
       entry_journalled = record {
         now = kept_on.now;
-        is = safely (with_flushed_entry t new w) kept_on.now entry_bare (flush_safe w t new kept_on.now (e ∷ []) j.safe entry_bare up back is.flushed is.way);
+        is = safely (with_flushed_entry t new w) kept_on.now entry_bare (flush_safe w t new kept_on.now (e ∷ []) j.safe entry_bare back is.flushed is.way);
         more = kept_on.more;
         grows = kept_on.grows;
       }
@@ -350,7 +350,7 @@ module _ (w : World) (early : List Sealed) (j : IsJournalled w early) where
     alike = alike_trans j.catalog.groups w.tier.groups t.groups j.alike quiet.groups;
     tie = ap (pending w.history) quiet.log ∙ j.tie;
     next = let below = j.next in let up = quiet.next in omega (arith, below, up);
-    safe = still_safe w t j.safe quiet.next (unshared_back w.shared w.tier.groups t.groups quiet.groups);
+    safe = still_safe w t j.safe (unshared_back w.shared w.tier.groups t.groups quiet.groups);
   }
 
 pub quiet_kept : (w : World) (early : List Sealed) (t : Tier) → IsJournalled w early → IsQuiet w.tier t → IsJournalled (record w { tier = t }) early

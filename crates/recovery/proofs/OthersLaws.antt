@@ -37,7 +37,7 @@ use Rattle.recovery.specs.SafeWays.{IsSafeOn}
 use Rattle.recovery.proofs.LiveLaws.{live_flushed, unshared_back}
 use Rattle.recovery.proofs.PointLaws.{safe_step}
 use Rattle.recovery.proofs.RoundedLaws.{Steps, leads_foreign}
-use Rattle.recovery.proofs.SafeLaws.{flushed_below, still_safe}
+use Rattle.recovery.proofs.SafeLaws.{still_safe}
 
 pub some_state : (o : Option TableState) → IsSome o → (s : TableState) × (o ≡ Some s)
 some_state None e = Prim.cc
@@ -108,11 +108,11 @@ module _ (w : World) (early : List Sealed) (j : IsJournalled w early) (apart : I
   flushed = notes_of schema w.journal.flushed
 
   abbrev Safe : List Entry → Type 0
-  Safe h = IsSafeOn w.tier.next w.tier.groups w.shared w.journal.flushed h w.journal.way
+  Safe h = IsSafeOn w.tier.groups w.shared w.journal.flushed h w.journal.way
 
   end : GoesOn Safe flushed j.late schema (w.history ++ entries) w.tier.log (early ++ j.late) early
   end = goes_on Safe flushed j.late schema w.shared entries w.history w.tier.log (early ++ j.late) early
-      (λ h e b y leaves known m. safe_step w.tier.next w.tier.groups w.shared w.journal.flushed schema w.journal.way (flushed_below w early j) (λ alone u there. live_flushed w early j u ∙ alone u there) h e b y leaves known m) j.safe j.stands
+      (λ h e b y leaves known m. safe_step w.tier.groups w.shared w.journal.flushed schema w.journal.way (λ alone u there. live_flushed w early j u ∙ alone u there) h e b y leaves known m) j.safe j.stands
       (ap (λ (x : TableState). x.schema) (same_some (sym j.stands.matched.leaves ∙ j.leaves)))
       (λ t e. ap (λ l. is_one_of (live_tables (groups_of l)) t) (given_is w early j) ∙ live w early j t ∙ apart t e)
       (j.tie ∙ ap (λ l. pending w.history (log_in w.history l)) (sym (given_is w early j))) are
@@ -135,7 +135,7 @@ module _ (w : World) (early : List Sealed) (j : IsJournalled w early) (apart : I
       tie = ap (pending (w.history ++ entries)) quiet.log ∙ end.tie
           ∙ ap (λ l. pending (w.history ++ entries) (log_in (w.history ++ entries) l)) (given_is w early j ∙ ap (λ s. notes_of s (given w.journal)) (sym end.schema_is));
       next = let below = j.next in let up = quiet.next in omega (arith, below, up);
-      safe = still_safe (record w { history = w.history ++ entries }) t end.holds quiet.next (unshared_back w.shared w.tier.groups t.groups quiet.groups);
+      safe = still_safe (record w { history = w.history ++ entries }) t end.holds (unshared_back w.shared w.tier.groups t.groups quiet.groups);
     };
     more = end.more;
     grows = end.grows;

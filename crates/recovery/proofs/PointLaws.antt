@@ -1,10 +1,7 @@
 -- Points on the way of a journal, and what keeps each of them safe.
 use Rattle.std.proofs.Common.{◌≡◌, ◌⊎◌, inl, inr, ℕ, ◌+◌, ◌≤◌, ◌<◌, ◌^◌, Bool, true, false, cond, nat_eq, Option, Some, None, List, [], ◌∷◌, ◌++◌, length, take, refl, sym, ap, subst, ◌∙◌, arith}
-use Rattle.std.specs.Prelude.{fold}
-use Rattle.std.proofs.Math.Nat.{le-max_left}
 use Rattle.std.proofs.lemmas.Bool.{cases_lt}
 use Rattle.std.proofs.lemmas.List.{length-append, take-append-le}
-use Rattle.std.proofs.lemmas.List.Sums.{fold-append}
 use Rattle.std.proofs.lemmas.Option.{same_Some}
 use Rattle.tier_base.specs.declared.number.TableId.{TableId}
 use Rattle.table_defs.specs.declared.definition.TableDef.{TableDef}
@@ -19,12 +16,12 @@ use Rattle.outside.specs.Others.{is_shared}
 use Rattle.recovery_laws.specs.Crashes.{Among}
 use Rattle.recovery_laws.specs.Matching.{IsMatched}
 use Rattle.recovery_laws.specs.Notes.{commits_in, found, groups_of}
-use Rattle.cache_tier.specs.Journals.{Commits, Defines, Drops, JournalEntry, Marks, Numbers, Prepares, SetsLoaded, SetsState, Stretch, Way, next_behind, next_with, passed_by}
+use Rattle.cache_tier.specs.Journals.{Commits, Defines, Drops, JournalEntry, Marks, Numbers, Prepares, SetsLoaded, SetsState, Stretch, Way, next_behind, passed_by}
 use Rattle.cache_tier.specs.WayPoints.{IsPoint, turned_at}
 use Rattle.recovery.specs.Recalling.{AreMatched, notes_of}
 use Rattle.cache_tier.specs.JournalWays.{first_of}
 use Rattle.cache_tier.specs.Groups.{Group}
-use Rattle.recovery.specs.SafeWays.{AreUnshared, EachPoint, EndBy, IsHeldIn, IsSafe, IsSafeOn, IsSafeWay, LeaveUnshared, commits_of}
+use Rattle.recovery.specs.SafeWays.{AreUnshared, EachPoint, EndBy, IsHeldIn, IsSafeOn, IsSafeOnceRead, IsSafeWay, LeaveUnshared, commits_of}
 
 -- ---- points
 
@@ -121,25 +118,6 @@ commits_same schema (Drops name ∷ xs) = commits_same schema xs
 commits_same schema (SetsState name state ∷ xs) = commits_same schema xs
 commits_same schema (SetsLoaded name flag ∷ xs) = commits_same schema xs
 
--- ---- tickets
-
-rise_one : (n : ℕ) (e : JournalEntry) → n ≤ next_with n e
-rise_one n (Commits s) = le-max_left n (s.ticket.0 + 1)
-rise_one n (Prepares s) = le-max_left n (s.ticket.0 + 1)
-rise_one n (Numbers t) = le-max_left n (t + 1)
-rise_one n (Marks t) = le-max_left n t
-rise_one n (Defines d text) = omega arith
-rise_one n (Drops name) = omega arith
-rise_one n (SetsState name state) = omega arith
-rise_one n (SetsLoaded name flag) = omega arith
-
-rises : (n : ℕ) (ys : List JournalEntry) → n ≤ fold next_with n ys
-rises n [] = omega arith
-rises n (e ∷ ys) = let one : n ≤ next_with n e = rise_one n e in let rest : next_with n e ≤ fold next_with (next_with n e) ys = rises (next_with n e) ys in omega (arith, one, rest)
-
-pub front_below : (xs ys : List JournalEntry) → next_behind xs ≤ next_behind (xs ++ ys)
-front_below xs ys = subst (λ n. next_behind xs ≤ n) (sym (fold-append next_with 1 xs ys)) (rises (next_behind xs) ys)
-
 -- ---- what holds at each point
 
 -- once something else is flushed
@@ -190,41 +168,41 @@ begun_points holds moment flushed h now entries count (low, high, is) le =
 abbrev pub StaysUnshared : List TableId → List Group → List Group → Type 0
 StaysUnshared shared gs hs = AreUnshared shared hs → AreUnshared shared gs
 
-module _ (next later : ℕ) (gs hs : List Group) (shared : List TableId) (flushed : List JournalEntry) (h : List Entry) (up : next ≤ later) (back : StaysUnshared shared gs hs) where
+module _ (gs hs : List Group) (shared : List TableId) (flushed : List JournalEntry) (h : List Entry) (back : StaysUnshared shared gs hs) where
   -- the last point is what is flushed now
-  held_now : (way : Way) → IsSafeWay next gs shared flushed h way → later ≤ 2 ^ 63 → (s : Sealed) → IsHeldIn (first_of way.past flushed) (take way.from h) s → IsHeldIn flushed h s
-  held_now way y cap s x =
+  held_now : (way : Way) → IsSafeWay gs shared flushed h way → (s : Sealed) → IsHeldIn (first_of way.past flushed) (take way.from h) s → IsHeldIn flushed h s
+  held_now way y s x =
       subst (λ l. IsHeldIn flushed l s) (take_whole h)
-      ((y.each (omega (arith, cap, up)) flushed (length h) (point_now way.from way.past flushed (length h) (length h) y.turned (omega arith)) (omega arith)).held s x)
+      ((y.each flushed (length h) (point_now way.from way.past flushed (length h) (length h) y.turned (omega arith)) (omega arith)).held s x)
 
-  still_way : (way : Way) → IsSafeWay next gs shared flushed h way → IsSafeWay later hs shared flushed h way
+  still_way : (way : Way) → IsSafeWay gs shared flushed h way → IsSafeWay hs shared flushed h way
   still_way way y = record {
     begun = y.begun;
     ended = y.ended;
     turned = y.turned;
-    each = λ cap. y.each (omega (arith, cap, up));
+    each = y.each;
     apart = λ alone. y.apart (back alone);
   }
 
   -- something else is flushed
-  module _ (new : List JournalEntry) (match : later ≤ 2 ^ 63 → AreMatched new h) (free : AreUnshared shared hs → LeaveUnshared shared new h) (step : (s : Sealed) → IsHeldIn flushed h s → IsHeldIn new h s) (way : Way) (y : IsSafeWay next gs shared flushed h way) where
+  module _ (new : List JournalEntry) (match : next_behind new ≤ 2 ^ 63 → AreMatched new h) (free : AreUnshared shared hs → LeaveUnshared shared new h) (step : (s : Sealed) → IsHeldIn flushed h s → IsHeldIn new h s) (way : Way) (y : IsSafeWay gs shared flushed h way) where
     abbrev behind : Way
     behind = record { since = way.since; from = way.from; past = way.past ++ stretch_of flushed (length h) ∷ [] }
 
-    turned_way : IsSafeWay later hs shared new h (record { since = way.since; from = way.from; past = way.past ++ stretch_of flushed (length h) ∷ [] })
+    turned_way : IsSafeWay hs shared new h (record { since = way.since; from = way.from; past = way.past ++ stretch_of flushed (length h) ∷ [] })
     turned_way = record {
       begun = y.begun;
       ended = end_push (length h) way.past (stretch_of flushed (length h)) (omega arith) y.ended;
       turned = subst (λ n. n ≤ length h) (sym (turned_push way.from way.past (stretch_of flushed (length h)))) (omega arith);
-      each = λ cap.
-          subst (λ f. EachPoint (IsSafe f (take way.from h)) behind new h) (sym (first_push way.past flushed new (length h)))
-          (turn_points (IsSafe (first_of way.past flushed) (take way.from h)) way flushed new h (y.each (omega (arith, cap, up)))
-          (record { matched = match cap; held = λ s x. step s (held_now way y cap s x) }));
+      each =
+          subst (λ f. EachPoint (IsSafeOnceRead f (take way.from h)) behind new h) (sym (first_push way.past flushed new (length h)))
+          (turn_points (IsSafeOnceRead (first_of way.past flushed) (take way.from h)) way flushed new h y.each
+          (record { matched = match; held = λ s x. step s (held_now way y s x) }));
       apart = λ alone. turn_points (LeaveUnshared shared) way flushed new h (y.apart (back alone)) (free alone);
     }
 
   -- the history has an entry more
-  module _ (e : Entry) (match : later ≤ 2 ^ 63 → AreMatched flushed (h ++ e ∷ [])) (free : AreUnshared shared hs → LeaveUnshared shared flushed (h ++ e ∷ [])) (way : Way) (y : IsSafeWay next gs shared flushed h way) where
+  module _ (e : Entry) (match : next_behind flushed ≤ 2 ^ 63 → AreMatched flushed (h ++ e ∷ [])) (free : AreUnshared shared hs → LeaveUnshared shared flushed (h ++ e ∷ [])) (way : Way) (y : IsSafeWay gs shared flushed h way) where
     size : length (h ++ e ∷ []) ≡ length h + 1
     size = length-append h (e ∷ [])
 
@@ -234,50 +212,50 @@ module _ (next later : ℕ) (gs hs : List Group) (shared : List TableId) (flushe
     early_same : take way.from (h ++ e ∷ []) ≡ take way.from h
     early_same = take-append-le way.from h (e ∷ []) y.begun
 
-    longer_way : IsSafeWay later hs shared flushed (h ++ e ∷ []) way
+    longer_way : IsSafeWay hs shared flushed (h ++ e ∷ []) way
     longer_way = record {
       begun = let low = y.begun in let more = within in omega (arith, low, more);
       ended = end_later (length h) (length (h ++ e ∷ [])) way.past within y.ended;
       turned = let low = y.turned in let more = within in omega (arith, low, more);
-      each = λ cap.
-          longer_points (IsSafe (first_of way.past flushed) (take way.from (h ++ e ∷ []))) way flushed h e y.ended
-          (subst (λ b. EachPoint (IsSafe (first_of way.past flushed) b) way flushed h) (sym early_same) (y.each (omega (arith, cap, up))))
-          (subst (λ b. IsSafe (first_of way.past flushed) b flushed (h ++ e ∷ [])) (sym early_same) (record { matched = match cap; held = λ s x. held_longer flushed h (e ∷ []) s (held_now way y cap s x) }));
+      each =
+          longer_points (IsSafeOnceRead (first_of way.past flushed) (take way.from (h ++ e ∷ []))) way flushed h e y.ended
+          (subst (λ b. EachPoint (IsSafeOnceRead (first_of way.past flushed) b) way flushed h) (sym early_same) y.each)
+          (subst (λ b. IsSafeOnceRead (first_of way.past flushed) b flushed (h ++ e ∷ [])) (sym early_same) (record { matched = match; held = λ s x. held_longer flushed h (e ∷ []) s (held_now way y s x) }));
       apart = λ alone. longer_points (LeaveUnshared shared) way flushed h e y.ended (y.apart (back alone)) (free alone);
     }
 
   -- ---- where a way is asked for
 
-  pub safe_still : (way : Option Way) → IsSafeOn next gs shared flushed h way → IsSafeOn later hs shared flushed h way
+  pub safe_still : (way : Option Way) → IsSafeOn gs shared flushed h way → IsSafeOn hs shared flushed h way
   safe_still None y = tt
   safe_still (Some way) y = still_way way y
 
-  pub safe_turned : (new : List JournalEntry) → (later ≤ 2 ^ 63 → AreMatched new h) → (AreUnshared shared hs → LeaveUnshared shared new h) → ((s : Sealed) → IsHeldIn flushed h s → IsHeldIn new h s) → (way : Option Way) → IsSafeOn next gs shared flushed h way
-      → IsSafeOn later hs shared new h (passed_by flushed (length h) way)
+  pub safe_turned : (new : List JournalEntry) → (next_behind new ≤ 2 ^ 63 → AreMatched new h) → (AreUnshared shared hs → LeaveUnshared shared new h) → ((s : Sealed) → IsHeldIn flushed h s → IsHeldIn new h s) → (way : Option Way) → IsSafeOn gs shared flushed h way
+      → IsSafeOn hs shared new h (passed_by flushed (length h) way)
   safe_turned new match free step None y = tt
   safe_turned new match free step (Some way) y = turned_way new match free step way y
 
-  pub safe_longer : (e : Entry) → (later ≤ 2 ^ 63 → AreMatched flushed (h ++ e ∷ [])) → (AreUnshared shared hs → LeaveUnshared shared flushed (h ++ e ∷ [])) → (way : Option Way) → IsSafeOn next gs shared flushed h way → IsSafeOn later hs shared flushed (h ++ e ∷ []) way
+  pub safe_longer : (e : Entry) → (next_behind flushed ≤ 2 ^ 63 → AreMatched flushed (h ++ e ∷ [])) → (AreUnshared shared hs → LeaveUnshared shared flushed (h ++ e ∷ [])) → (way : Option Way) → IsSafeOn gs shared flushed h way → IsSafeOn hs shared flushed (h ++ e ∷ []) way
   safe_longer e match free None y = tt
   safe_longer e match free (Some way) y = longer_way e match free way y
 
 -- an entry more that the same notes match
-pub safe_step : (next : ℕ) (gs : List Group) (shared : List TableId) (flushed : List JournalEntry) (schema : List TableDef) (way : Option Way) → next_behind flushed ≤ next
+pub safe_step : (gs : List Group) (shared : List TableId) (flushed : List JournalEntry) (schema : List TableDef) (way : Option Way)
     → (AreUnshared shared gs → (u : TableId) → is_shared shared u ≡ true → is_one_of (live_tables (groups_of (notes_of schema flushed))) u ≡ false)
-    → (h : List Entry) (e : Entry) (b : TableState) → IsSafeOn next gs shared flushed h way → state_of (h ++ e ∷ []) ≡ Some b → b.schema ≡ schema
-    → IsMatched (notes_of schema flushed) (h ++ e ∷ []) → IsSafeOn next gs shared flushed (h ++ e ∷ []) way
-safe_step next gs shared flushed schema way below free h e b y leaves known m =
-    safe_longer next next gs gs shared flushed h (omega arith) (λ alone. alone) e
-    (λ cap. record { backing = b; leaves = leaves; matched = subst (λ z. IsMatched (notes_of z flushed) (h ++ e ∷ [])) (sym known) m; last = omega (arith, below, cap) })
+    → (h : List Entry) (e : Entry) (b : TableState) → IsSafeOn gs shared flushed h way → state_of (h ++ e ∷ []) ≡ Some b → b.schema ≡ schema
+    → IsMatched (notes_of schema flushed) (h ++ e ∷ []) → IsSafeOn gs shared flushed (h ++ e ∷ []) way
+safe_step gs shared flushed schema way free h e b y leaves known m =
+    safe_longer gs gs shared flushed h (λ alone. alone) e
+    (λ cap. record { backing = b; leaves = leaves; matched = subst (λ z. IsMatched (notes_of z flushed) (h ++ e ∷ [])) (sym known) m; last = cap })
     (λ alone s told u there. ap (λ (z : List TableDef). is_one_of (live_tables (groups_of (notes_of z flushed))) u) (ap (λ (x : TableState). x.schema) (same_Some s b (sym told ∙ leaves)) ∙ known) ∙ free alone u there) way y
 
 -- a way that begins now
-pub safe_begun : (next : ℕ) (gs : List Group) (shared : List TableId) (moment : ℕ) (flushed : List JournalEntry) (h : List Entry) → (next ≤ 2 ^ 63 → AreMatched flushed h) → (AreUnshared shared gs → LeaveUnshared shared flushed h)
-    → IsSafeWay next gs shared flushed h (record { since = moment; from = length h; past = [] })
-safe_begun next gs shared moment flushed h match free = record {
+pub safe_begun : (gs : List Group) (shared : List TableId) (moment : ℕ) (flushed : List JournalEntry) (h : List Entry) → (next_behind flushed ≤ 2 ^ 63 → AreMatched flushed h) → (AreUnshared shared gs → LeaveUnshared shared flushed h)
+    → IsSafeWay gs shared flushed h (record { since = moment; from = length h; past = [] })
+safe_begun gs shared moment flushed h match free = record {
   begun = omega arith;
   ended = tt;
   turned = omega arith;
-  each = λ cap. begun_points (IsSafe flushed (take (length h) h)) moment flushed h (record { matched = match cap; held = λ s x. subst (λ b. IsHeldIn flushed b s) (take_whole h) x });
+  each = begun_points (IsSafeOnceRead flushed (take (length h) h)) moment flushed h (record { matched = match; held = λ s x. subst (λ b. IsHeldIn flushed b s) (take_whole h) x });
   apart = λ alone. begun_points (LeaveUnshared shared) moment flushed h (free alone);
 }

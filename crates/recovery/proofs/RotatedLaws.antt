@@ -298,7 +298,7 @@ module _ (w : World) (early : List Sealed) (j : IsJournalled w early) (stands : 
   pub rotation_journalled : IsJournalledOn (record w { journal = new }) early
   rotation_journalled = record {
     now = kept_on.now;
-    is = safely (record w { journal = new }) kept_on.now rotation_bare (turn_safe w w.tier new kept_on.now j.safe rotation_bare (omega arith) (λ alone. alone) holds is.way);
+    is = safely (record w { journal = new }) kept_on.now rotation_bare (turn_safe w w.tier new kept_on.now j.safe rotation_bare (λ alone. alone) holds is.way);
     more = kept_on.more;
     grows = kept_on.grows;
   }

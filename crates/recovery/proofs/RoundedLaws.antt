@@ -41,7 +41,6 @@ use Rattle.recovery.specs.SafeWays.{IsSafeOn}
 use Rattle.recovery.proofs.JournalledLaws.{live, notes}
 use Rattle.recovery.proofs.LiveLaws.{live_flushed}
 use Rattle.recovery.proofs.PointLaws.{safe_step}
-use Rattle.recovery.proofs.SafeLaws.{flushed_below}
 
 -- ---- one entry more
 
@@ -158,11 +157,11 @@ module _ (w : World) (early : List Sealed) (j : IsJournalled w early) (stands : 
   live_here u = ap (λ l. is_one_of (live_tables (groups_of l)) u) all_notes ∙ live w early j u ∙ sym (live_table w.tier.groups u)
 
   abbrev Safe : List Entry → Type 0
-  Safe h = IsSafeOn w.tier.next w.tier.groups w.shared w.journal.flushed h w.journal.way
+  Safe h = IsSafeOn w.tier.groups w.shared w.journal.flushed h w.journal.way
 
   end : GoesOn Safe flushed schema later w.tier.log left (early ++ []) early
   end = goes_on Safe flushed schema (live_tables (live_groups_of w.tier.groups)) events w.history later w.tier.log w.tier.unsettled left (early ++ []) early
-      (λ h e b y leaves known m. safe_step w.tier.next w.tier.groups w.shared w.journal.flushed schema w.journal.way (flushed_below w early j) (λ alone u there. live_flushed w early j u ∙ alone u there) h e b y leaves known m) j.safe begin
+      (λ h e b y leaves known m. safe_step w.tier.groups w.shared w.journal.flushed schema w.journal.way (λ alone u there. live_flushed w early j u ∙ alone u there) h e b y leaves known m) j.safe begin
       (ap (λ (x : TableState). x.schema) (same_some (sym begin.matched.leaves ∙ j.leaves))) live_here
       (j.tie ∙ ap (λ l. pending w.history (log_in w.history l)) (sym all_notes)) stands.flow.rest
       (subst (λ s. Follows s (live_tables (live_groups_of w.tier.groups)) events w.history w.tier.unsettled later left) schemas f)

@@ -159,7 +159,7 @@ module _ (w : World) (early : List Sealed) (j : IsJournalled w early) (def : Tab
     pub table_journalled : IsJournalledOn (at_history (w.history ++ Definition def ∷ []) (record w { tier = t })) early
     table_journalled = record {
       now = kept.now;
-      is = safely (at_history (w.history ++ Definition def ∷ []) (record w { tier = t })) kept.now table_bare (grow_safe w t (Definition def) kept.now j.safe table_bare quiet.next (unshared_back w.shared w.tier.groups t.groups quiet.groups));
+      is = safely (at_history (w.history ++ Definition def ∷ []) (record w { tier = t })) kept.now table_bare (grow_safe w t (Definition def) kept.now j.safe table_bare (unshared_back w.shared w.tier.groups t.groups quiet.groups));
       more = kept.more;
       grows = kept.grows;
     }

@@ -13,7 +13,7 @@ use Rattle.outside.specs.Others.{is_shared}
 use Rattle.recovery_laws.specs.Crashes.{Among}
 use Rattle.recovery_laws.specs.Notes.{found, groups_of}
 use Rattle.cache_tier.specs.Groups.{Group, is_table_of, is_writethrough}
-use Rattle.cache_tier.specs.Journals.{Commits, Defines, Drops, JournalEntry, Marks, Numbers, Prepares, SetsLoaded, SetsState, Stretch, Way}
+use Rattle.cache_tier.specs.Journals.{Commits, Defines, Drops, JournalEntry, Marks, Numbers, Prepares, SetsLoaded, SetsState, Stretch, Way, next_behind}
 use Rattle.cache_tier.specs.JournalWays.{first_of}
 use Rattle.cache_tier.specs.WayPoints.{IsPoint, turned_at}
 use Rattle.cache_tier.specs.Worlds.{World}
@@ -46,6 +46,12 @@ pub record IsSafe (first : List JournalEntry) (begun : List Entry) (entries : Li
   pub matched : AreMatched entries history
   pub held : (s : Sealed) → IsHeldIn first begun s → IsHeldIn entries history s
 
+-- The same of entries of which it isn't known yet that their tickets are below 2^63, as those of each slot are.
+pub record IsSafeOnceRead (first : List JournalEntry) (begun : List Entry) (entries : List JournalEntry)
+    (history : List Entry) : Type 0 where
+  pub matched : next_behind entries ≤ 2 ^ 63 → AreMatched entries history
+  pub held : (s : Sealed) → IsHeldIn first begun s → IsHeldIn entries history s
+
 -- others change no table that these groups write through
 abbrev pub AreUnshared : List TableId → List Group → Type 0
 AreUnshared shared groups =
@@ -63,22 +69,21 @@ EachPoint holds way flushed history =
     (entries : List JournalEntry) (count : ℕ) → IsPoint way.from way.past flushed (length history) entries count
     → count ≤ length history → holds entries (take count history)
 
--- The way began, and its stretches ended, no later than now. While tickets are left each of its points is safe; and
--- where others change no table that the tier writes through now, they change none that it wrote through at a point.
-pub record IsSafeWay (next : ℕ) (groups : List Group) (shared : List TableId) (flushed : List JournalEntry)
+-- The way began, and its stretches ended, no later than now. Each of its points is safe; and where others change no
+-- table that the tier writes through now, they change none that it wrote through at a point.
+pub record IsSafeWay (groups : List Group) (shared : List TableId) (flushed : List JournalEntry)
     (history : List Entry) (way : Way) : Type 0 where
   pub begun : way.from ≤ length history
   pub ended : EndBy (length history) way.past
   pub turned : turned_at way.from way.past ≤ length history
-  pub each : next ≤ 2 ^ 63
-      → EachPoint (IsSafe (first_of way.past flushed) (take way.from history)) way flushed history
+  pub each : EachPoint (IsSafeOnceRead (first_of way.past flushed) (take way.from history)) way flushed history
   pub apart : AreUnshared shared groups → EachPoint (LeaveUnshared shared) way flushed history
 
 -- nothing is said where no way is asked for
-abbrev pub IsSafeOn : ℕ → List Group → List TableId → List JournalEntry → List Entry → Option Way → Type 0
-IsSafeOn next groups shared flushed history None = Unit {0}
-IsSafeOn next groups shared flushed history (Some way) = IsSafeWay next groups shared flushed history way
+abbrev pub IsSafeOn : List Group → List TableId → List JournalEntry → List Entry → Option Way → Type 0
+IsSafeOn groups shared flushed history None = Unit {0}
+IsSafeOn groups shared flushed history (Some way) = IsSafeWay groups shared flushed history way
 
 -- so it is of the world's journal and tier
 abbrev pub HasSafeWay : World → Option Way → Type 0
-HasSafeWay w way = IsSafeOn w.tier.next w.tier.groups w.shared w.journal.flushed w.history way
+HasSafeWay w way = IsSafeOn w.tier.groups w.shared w.journal.flushed w.history way

@@ -1,5 +1,5 @@
 -- The command `import` leaves a site that may be opened again.
-use Rattle.std.proofs.Common.{◌≡◌, ℕ, ◌+◌, ◌≤◌, ◌^◌, Bool, true, false, not, Option, Some, None, Result, Ok, Err, List, [], ◌∷◌, ◌++◌, inl, inr, refl, sym, ap, subst, ◌∙◌, append-nil, eqb}
+use Rattle.std.proofs.Common.{◌≡◌, ℕ, ◌+◌, ◌≤◌, ◌^◌, Bool, true, false, not, Option, Some, None, Result, Ok, Err, List, [], ◌∷◌, ◌++◌, inl, inr, refl, sym, ap, subst, ◌∙◌, append-nil}
 use Rattle.std.specs.Prelude.{nat_lt, ◌==◌, if◌then◌else◌}
 use Rattle.tier_base.specs.declared.limit.Limit.TheVariants.{Operations}
 use Rattle.tier_base.specs.declared.number.TableId.{TableId}
@@ -12,6 +12,7 @@ use Rattle.evaluator.specs.declared.change.Change.{Change}
 use Rattle.evaluator.specs.Rules.{added, limit, then_do}
 use Rattle.evaluator.specs.Writes.{built}
 use Rattle.csv_import.specs.Inserts.{given_by, insert_in, insert_of, inserts_from, is_record, kept_insert, listed, literals_in, name_columns, records_in, wrong_record}
+use Rattle.table_state.specs.declared.history.Entry.{Entry}
 use Rattle.table_state.specs.declared.history.Sealed.{Sealed}
 use Rattle.order_laws.proofs.CountLaws.{defs_of}
 use Rattle.outside.specs.Holding.{Held}
@@ -20,7 +21,7 @@ use Rattle.outside.specs.Sites.{SiteState}
 use Rattle.cache_tier.specs.Groups.{is_table_of, is_writethrough}
 use Rattle.cache_tier.specs.Routes.{is_written_through}
 use Rattle.cache_tier.specs.StandingBetween.{Stands}
-use Rattle.cache_tier.specs.TierStates.{Settings, Tier}
+use Rattle.cache_tier.specs.TierStates.{Tier}
 use Rattle.cache_tier.specs.Worlds.{IsUnshared, Tries, World}
 use Rattle.cache_tier.specs.declared.reply.Reply.{Reply}
 use Rattle.cache_tier.proofs.GroupTables.{live_table}
@@ -37,18 +38,17 @@ use Rattle.stored_tier.specs.Sites.{IsAt}
 use Rattle.tier_opening.specs.Opening.{MayOpen}
 use Rattle.session_cli.specs.declared.serving.Status.{Status}
 use Rattle.session_cli.specs.declared.serving.Status.TheVariants.{Finished, SourceFailed, SinkFailed, DiskFailed, SchemaFailed, NoMemory, LineUnchecked, Damaged, Differs, InputTooLong}
-use Rattle.session_cli.specs.Importing.{ImportEnds, OpenedAndImported}
-use Rattle.session_cli.specs.Outside.{IsInSlots, Outside, seen}
-use Rattle.session_cli.specs.Timing.{Coming}
+use Rattle.session_cli.specs.Importing.{ImportEnds}
+use Rattle.session_cli.specs.Outside.{IsInSlots, seen}
 use Rattle.reopened_laws.specs.Ending.{ImportsLeaveSites, MayOpenAgain}
 use Rattle.reopened_laws.proofs.EndedRuns.{bytes_at, kept_at, named_at}
 use Rattle.reopened_laws.proofs.ReadOpenings.{opened_readable}
-use Rattle.reopened_laws.proofs.ReadParts.{Readable, bank, defs_same, of_tier}
+use Rattle.reopened_laws.proofs.ReadParts.{Readable, around, bank, defs_same, of_tier}
 use Rattle.reopened_laws.proofs.ReadRuns.{readable_told}
 use Rattle.reopened_laws.proofs.ReadStatements.{foreign_none}
 use Rattle.reopened_laws.proofs.ReadTiers.{rests}
 use Rattle.reopened_laws.proofs.RunEnds.{begins_again}
-use Rattle.reopened_laws.proofs.SchemaLaws.{defs_around, front_same}
+use Rattle.reopened_laws.proofs.SchemaLaws.{front_same}
 use Rattle.reopened_laws.proofs.SiteLaws.{may_open}
 use Rattle.reopened_laws.proofs.SlotLaws.{left_at}
 
@@ -116,32 +116,38 @@ import_off t word bytes changes e = into (table_asked t.schema word) e
 
 -- ---- the import
 
--- the world's journal is its tier's, and nothing but its history has changed since, by which no table was defined
-record ComesBy (w w' : World) (early : List Sealed) : Type 0 where
-  on : IsJournalledOn w' early
-  reads : Readable w'
-  defs : defs_of w'.history ≡ defs_of w.history
-  shared : w'.shared ≡ w.shared
-  tier : w'.tier ≡ w.tier
+-- the world's journal is its tier's, and nothing but its history has got longer since, by which no table was defined
+pub record ComesBy (w w' : World) (early : List Sealed) : Type 0 where
+  pub on : IsJournalledOn w' early
+  pub reads : Readable w'
+  pub more : List Entry
+  pub is : w'.history ≡ w.history ++ more
+  pub defs : defs_of w'.history ≡ defs_of w.history
+  pub shared : w'.shared ≡ w.shared
+  pub journal : w'.journal ≡ w.journal
+  pub tier : w'.tier ≡ w.tier
 
-stays : (w w' : World) (early : List Sealed) → IsJournalledOn w early → Readable w → w' ≡ w → ComesBy w w' early
-stays w w' early on reads e = subst (λ v. ComesBy w v early) (sym e) (record { on = on; reads = reads; defs = refl; shared = refl; tier = refl })
+pub stays : (w w' : World) (early : List Sealed) → IsJournalledOn w early → Readable w → w' ≡ w → ComesBy w w' early
+stays w w' early on reads e = subst (λ v. ComesBy w v early) (sym e) (record { on = on; reads = reads; more = []; is = sym (append-nil w.history); defs = refl; shared = refl; journal = refl; tier = refl })
 
-import_comes : (word bytes : List ℕ) (w w' : World) (reply : Reply) (early : List Sealed) → Stands w → IsJournalledOn w early → IsUnshared w → Readable w → Tries (Imports word bytes) w w' reply → ComesBy w w' early
+pub import_comes : (word bytes : List ℕ) (w w' : World) (reply : Reply) (early : List Sealed) → Stands w → IsJournalledOn w early → IsUnshared w → Readable w → Tries (Imports word bytes) w w' reply → ComesBy w w' early
 import_comes word bytes w w' reply early stands on apart reads (inr q) = stays w w' early on reads q.0
 import_comes word bytes w w' reply early stands on apart reads (inl q) = by (inserts_for w.tier word bytes) refl q
   where
     by : (r : Result (List Change) Rule) → inserts_for w.tier word bytes ≡ r → ImportsRead r w w' reply → ComesBy w w' early
     by (Err rule) is q = stays w w' early on reads q.0
     by (Ok []) is q = stays w w' early on reads q.0
-    by (Ok (change ∷ changes)) is q = record {
+    by (Ok (change ∷ changes)) is q = let adds = around w w' _ (foreign_none (change ∷ changes) q.result) q.call.history in record {
       on =
           on_then w' early on.now on.more on.grows
           (wrote w w' on.now stands on.is apart (change ∷ changes)
           (λ ops rows b s leaves same done. ops_off w (change ∷ changes) ops rows b s stands (import_off w.tier word bytes (change ∷ changes) is) leaves same done) q.tier q.call.journal q.call.shared q.result q.call.history);
       reads = bank w w' _ (foreign_none (change ∷ changes) q.result) (of_tier w.tier w'.tier _ q.tier (rests w.tier)) q.call reads;
-      defs = defs_around w.shared _ w.history w'.history (λ a b p. defs_same a b (foreign_none (change ∷ changes) q.result a b p)) q.call.history;
+      more = adds.more;
+      is = adds.is;
+      defs = defs_same w.history w'.history adds;
       shared = q.call.shared;
+      journal = q.call.journal;
       tier = q.tier;
     }
 

@@ -3,6 +3,7 @@ mod EndedRuns
 mod HandedOn
 mod ImportLaws
 mod PointLaws
+mod ProgramLaws
 mod ReadLines
 mod ReadNames
 mod ReadOpenings
@@ -15,4 +16,5 @@ mod SaidLaws
 mod SchemaLaws
 mod SiteLaws
 mod SlotLaws
+mod TicketLaws
 mod WithinLaws

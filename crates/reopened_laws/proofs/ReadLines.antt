@@ -31,7 +31,7 @@ use Rattle.cache_tier.specs.Undone.{is_undone}
 use Rattle.cache_tier.specs.Worlds.{BankCall, Follows, OnlyWhere, Tries, Unless, World}
 use Rattle.reopened_laws.specs.Leaving.{HaveOwnTableNames}
 use Rattle.reopened_laws.proofs.ReadTiers.{aging_rests, rests, settled_rests}
-use Rattle.reopened_laws.proofs.ReadParts.{AllPrint, AllRead, PartKeeps, Readable, StageKeeps, WayReads, bank, defs_others, either_keeps, of_tier, only_where_keeps, quiet, refuses_keeps, round_keeps, same, state_before, tiered, tries_keeps, unless_keeps}
+use Rattle.reopened_laws.proofs.ReadParts.{AllPrint, AllRead, IsFront, PartKeeps, Readable, StageKeeps, WayReads, bank, defs_others, either_keeps, front_then, of_tier, only_where_keeps, quiet, refuses_keeps, round_keeps, same, state_before, tiered, tries_keeps, unless_keeps, whole_front}
 use Rattle.reopened_laws.proofs.ReadStatements.{RequestPrints, recorded_none, refreshes_if_shown_keeps, session_keeps, writes_all_keeps}
 use Rattle.reopened_laws.proofs.ReadNames.{IsFreshName, fresh_of, own_more, taken_none}
 
@@ -109,11 +109,18 @@ nothing_made w w' g schema stale r = record {
   groups = subst (λ gs. AllPrint (definitions_of gs)) (sym g.groups) r.groups;
   known = λ s leaves fresh. (let m = was_there w w' [] g s leaves in schema ∙ r.known m.0 m.1 (sym stale ∙ fresh) ∙ sym (g.defs ∙ append-nil (defs_of w.history)));
   own = λ s leaves. (let m = was_there w w' [] g s leaves in subst HaveOwnTableNames (sym (g.defs ∙ append-nil (defs_of w.history))) (r.own m.0 m.1));
+  front = λ s leaves. (let m = was_there w w' [] g s leaves in front_then w.tier.schema w'.tier.schema w.history w'.history schema (g.defs ∙ append-nil (defs_of w.history)) (r.front m.0 m.1));
 }
 
+-- the schema with the table, or without it
+front_made : (schema schema' : List TableDef) (def : TableDef) (h : List Entry) → defs_of h ≡ schema ++ def ∷ [] → (schema' ≡ schema ++ def ∷ []) ⊎ (schema' ≡ schema) → IsFront schema' h
+front_made schema schema' def h defs (inl e) = whole_front schema' h (e ∙ sym defs)
+front_made schema schema' def h defs (inr e) = record { more = def ∷ []; is = defs ∙ ap (λ l. l ++ def ∷ []) (sym e) }
+
 -- a table is made, and the tier knows it, or knows that it doesn't
-table_made : (w w' : World) (def : TableDef) → Grown w w' (Definition def ∷ []) → w.tier.stale ≡ false → IsFreshName def.name w.tier.schema → (w'.tier.stale ≡ false → w'.tier.schema ≡ w.tier.schema ++ def ∷ []) → Readable w → Readable w'
-table_made w w' def g fresh name schema r = record {
+table_made : (w w' : World) (def : TableDef) → Grown w w' (Definition def ∷ []) → w.tier.stale ≡ false → IsFreshName def.name w.tier.schema → (w'.tier.stale ≡ false → w'.tier.schema ≡ w.tier.schema ++ def ∷ [])
+    → (w'.tier.schema ≡ w.tier.schema ++ def ∷ []) ⊎ (w'.tier.schema ≡ w.tier.schema) → Readable w → Readable w'
+table_made w w' def g fresh name schema either r = record {
   flushed = subst (λ j. AllRead j.flushed) (sym g.journal) r.flushed;
   tail = subst (λ j. AllRead j.tail) (sym g.journal) r.tail;
   way = subst (λ j. WayReads j.way) (sym g.journal) r.way;
@@ -122,6 +129,9 @@ table_made w w' def g fresh name schema r = record {
   own = λ s leaves.
       (let m = was_there w w' (Definition def ∷ []) g s leaves in
       subst HaveOwnTableNames (sym g.defs) (own_more (defs_of w.history) def (r.own m.0 m.1) (subst (IsFreshName def.name) (r.known m.0 m.1 fresh) name)));
+  front = λ s leaves.
+      (let m = was_there w w' (Definition def ∷ []) g s leaves in
+      front_made w.tier.schema w'.tier.schema def w'.history (g.defs ∙ ap (λ l. l ++ def ∷ []) (sym (r.known m.0 m.1 fresh))) either);
 }
 
 asked_keeps : StageKeeps Asked
@@ -134,13 +144,17 @@ asked_keeps w w' stop q r = by q.result q.call q.tier
       tail = subst (λ j. AllRead j.tail) (sym g.journal) r.tail;
       way = subst (λ j. WayReads j.way) (sym g.journal) r.way;
       groups = subst (λ gs. AllPrint (definitions_of gs)) (sym g.groups) r.groups;
-      known = λ s leaves fresh.
-          (let m = state_before c.history.middle w'.history c.history.behind s c.history.is leaves in
-          ap (λ (t : Tier). t.schema) tier ∙ c.history.own.1 m.0 m.1 ∙ schema_after c.history.middle no_tables m.0 m.1
-          ∙ sym (ap defs_of c.history.is ∙ defs-append c.history.middle c.history.behind ∙ ap (λ l. defs_of c.history.middle ++ l) (defs_others w.shared c.history.middle c.history.behind c.history.came_behind) ∙ append-nil (defs_of c.history.middle)));
+      known = λ s leaves fresh. known s leaves;
       own = λ s leaves. (let m = was_there w w' [] g s leaves in subst HaveOwnTableNames (sym (g.defs ∙ append-nil (defs_of w.history))) (r.own m.0 m.1));
+      front = λ s leaves. whole_front w'.tier.schema w'.history (known s leaves);
     }
       where
+        known : (s : TableState) → state_of w'.history ≡ Some s → w'.tier.schema ≡ defs_of w'.history
+        known s leaves =
+            let m = state_before c.history.middle w'.history c.history.behind s c.history.is leaves in
+            ap (λ (t : Tier). t.schema) tier ∙ c.history.own.1 m.0 m.1 ∙ schema_after c.history.middle no_tables m.0 m.1
+            ∙ sym (ap defs_of c.history.is ∙ defs-append c.history.middle c.history.behind ∙ ap (λ l. defs_of c.history.middle ++ l) (defs_others w.shared c.history.middle c.history.behind c.history.came_behind) ∙ append-nil (defs_of c.history.middle))
+
         g : Grown w w' []
         g = grown_by w w' _ c [] (ap (λ (t : Tier). t.groups) tier) c.history.own.0
 
@@ -161,7 +175,7 @@ creates_keeps : (def : TableDef) (w w' : World) (reply : Reply) → w.tier.stale
 creates_keeps def w w' reply fresh name q r = by q.result q.call q.tier
   where
     by : (result : Result (Unit {0}) BankError) → BankCall (Defines def result) w w' → w'.tier ≡ after_define def result w.tier → Readable w'
-    by (Ok done) c tier = table_made w w' def (grown_by w w' _ c (Definition def ∷ []) (ap (λ (t : Tier). t.groups) tier) c.history.own) fresh name (λ still. ap (λ (t : Tier). t.schema) tier) r
+    by (Ok done) c tier = table_made w w' def (grown_by w w' _ c (Definition def ∷ []) (ap (λ (t : Tier). t.groups) tier) c.history.own) fresh name (λ still. ap (λ (t : Tier). t.schema) tier) (inl (ap (λ (t : Tier). t.schema) tier)) r
     by (Err Memory) c tier = nothing_made w w' (grown_by w w' _ c [] (ap (λ (t : Tier). t.groups) tier) c.history.own) (ap (λ (t : Tier). t.schema) tier) (ap (λ (t : Tier). t.stale) tier) r
     by (Err Failed) c tier = failed c.history.own
       where
@@ -172,7 +186,7 @@ creates_keeps def w w' reply fresh name q r = by q.result q.call q.tier
             never e = cc
 
         failed : (c.history.middle ≡ (w.history ++ c.history.before) ++ []) ⊎ (c.history.middle ≡ (w.history ++ c.history.before) ++ Definition def ∷ []) → Readable w'
-        failed (inr grows) = table_made w w' def (grown_by w w' _ c (Definition def ∷ []) (ap (λ (t : Tier). t.groups) tier) grows) fresh name (λ still. absurd (stale still)) r
+        failed (inr grows) = table_made w w' def (grown_by w w' _ c (Definition def ∷ []) (ap (λ (t : Tier). t.groups) tier) grows) fresh name (λ still. absurd (stale still)) (inr (ap (λ (t : Tier). t.schema) tier)) r
         failed (inl grows) = unmade (grown_by w w' _ c [] (ap (λ (t : Tier). t.groups) tier) grows)
           where
             unmade : Grown w w' [] → Readable w'
@@ -183,6 +197,7 @@ creates_keeps def w w' reply fresh name q r = by q.result q.call q.tier
               groups = subst (λ gs. AllPrint (definitions_of gs)) (sym g.groups) r.groups;
               known = λ s leaves still. absurd (stale still);
               own = λ s leaves. (let m = was_there w w' [] g s leaves in subst HaveOwnTableNames (sym (g.defs ∙ append-nil (defs_of w.history))) (r.own m.0 m.1));
+              front = λ s leaves. (let m = was_there w w' [] g s leaves in front_then w.tier.schema w'.tier.schema w.history w'.history (ap (λ (t : Tier). t.schema) tier) (g.defs ∙ append-nil (defs_of w.history)) (r.front m.0 m.1));
             }
 
 -- the schema isn't stale, or the name is that of a table of a group

@@ -26,7 +26,7 @@ use Rattle.tier_journal.specs.Opening.{IsSpelt, StandForAll}
 use Rattle.cache_engine.specs.Opening.{Opens}
 use Rattle.reopened_laws.specs.Leaving.{HasText, HaveOwnTableNames}
 use Rattle.reopened_laws.proofs.ReadTiers.{changed_rests, cond_def, mapped_defs, refreshed_rests, rests}
-use Rattle.reopened_laws.proofs.ReadParts.{AllPrint, AllRead, Prints, Readable, StageKeeps, WayReads, applies_keeps, becomes_keeps, defs_others, defs_same, only_where_keeps, reads_first_keeps, same, state_before, then_stage_keeps}
+use Rattle.reopened_laws.proofs.ReadParts.{AllPrint, AllRead, Prints, Readable, StageKeeps, WayReads, applies_keeps, becomes_keeps, defs_others, defs_same, only_where_keeps, reads_first_keeps, same, state_before, then_stage_keeps, whole_front}
 use Rattle.reopened_laws.proofs.ReadStatements.{less_print, more_print}
 
 -- ---- the entries
@@ -125,6 +125,7 @@ module _ (settings : Settings) (moment : ℕ) (there : Held) (w : World) (x : Op
     own = λ s leaves.
         (let m = state_before there.history begun.history x.begins.others s x.begins.history leaves in
         subst HaveOwnTableNames (schema_after there.history no_tables m.0 m.1 ∙ sym others) (named m.0 m.1));
+    front = λ s leaves. whole_front begun.tier.schema begun.history (schema ∙ sym (x.begins.known s leaves) ∙ schema_after begun.history no_tables s leaves);
   }
 
   pub opened_readable : Readable w

@@ -11,6 +11,7 @@ use Rattle.table_state.specs.declared.history.Sealed.{Sealed}
 use Rattle.table_state.specs.declared.operation.Op.{Op}
 use Rattle.table_state.specs.Histories.{after_entry, no_tables, state_from, state_of}
 use Rattle.table_state.specs.Tables.{TableState}
+use Rattle.table_defs.specs.declared.definition.TableDef.{TableDef}
 use Rattle.order_laws.proofs.CountLaws.{defs_of}
 use Rattle.order_laws.proofs.OrderLaws.{defs-append}
 use Rattle.outside.specs.declared.fault.BankError.{BankError}
@@ -23,10 +24,10 @@ use Rattle.cache_tier.specs.declared.reply.Reply.{Reply}
 use Rattle.cache_tier.specs.Definitions.{text_of}
 use Rattle.cache_tier.specs.declared.group.GroupDef.{GroupDef}
 use Rattle.cache_tier.specs.Groups.{Group, definitions_of, is_read_only}
-use Rattle.cache_tier.specs.JournalSteps.{Failing, Flushed, Flushes, FlushesFitting, FlushesKept, FlushesSome, NotesKept, Records, Whole, has_entries, journal_behind, journal_full, name_sizes}
+use Rattle.cache_tier.specs.JournalSteps.{Flushes, FlushesFitting, FlushesKept, FlushesSome, NotesKept, Records, has_entries, journal_behind, journal_full, name_sizes}
 use Rattle.cache_tier.specs.Journals.{Commits, Journal, JournalEntry, SetsLoaded, SetsState, Stretch, Way, flushed_batch, passed_by, with_noted}
 use Rattle.cache_tier.specs.Reading.{Answers, FollowsAt, Reads, ReadsFirst, StageFollowsAt, TellsPosition}
-use Rattle.cache_tier.specs.Rotations.{Broken, Kept, Renewed, Rotates, Rotation, definition_entry, is_long, journal_after, slot_entries}
+use Rattle.cache_tier.specs.Rotations.{Broken, Kept, Renewed, Rotates, Rotation, definition_entry, is_long, journal_after, renewed, slot_entries}
 use Rattle.cache_tier.specs.Rounds.{Applies, AppliesAndRotates, Mixes, Round, RoundIfUnsettled, is_unsettled}
 use Rattle.cache_tier.specs.TierStates.{Tier}
 use Rattle.cache_tier.specs.WayPoints.{IsPoint}
@@ -51,8 +52,20 @@ abbrev pub WayReads : Option Way → Type 0
 WayReads None = Unit {0}
 WayReads (Some way) = AllByRecursion (λ (s : Stretch). AllRead s.entries) way.past
 
--- each definition's text reads, on the way too; what is printed of a group does; the schema that isn't stale is the
--- bank's, in which no two tables have one name
+-- the schema is a front of what the history defines
+pub record IsFront (schema : List TableDef) (h : List Entry) : Type 0 where
+  pub more : List TableDef
+  pub is : defs_of h ≡ schema ++ more
+
+-- it is one still, where nothing is defined
+pub front_then : (schema schema' : List TableDef) (h h' : List Entry) → schema' ≡ schema → defs_of h' ≡ defs_of h → IsFront schema h → IsFront schema' h'
+front_then schema schema' h h' same defs x = record { more = x.more; is = defs ∙ x.is ∙ ap (λ l. l ++ x.more) (sym same) }
+
+pub whole_front : (schema : List TableDef) (h : List Entry) → schema ≡ defs_of h → IsFront schema h
+whole_front schema h is = record { more = []; is = sym is ∙ sym (append-nil schema) }
+
+-- Each definition's text reads, on the way too; what is printed of a group does. The schema is a front of the bank's, in
+-- which no two tables have one name, and all of it where it isn't stale.
 pub record Readable (w : World) : Type 0 where
   pub flushed : AllRead w.journal.flushed
   pub tail : AllRead w.journal.tail
@@ -60,6 +73,7 @@ pub record Readable (w : World) : Type 0 where
   pub groups : AllPrint (definitions_of w.tier.groups)
   pub known : (s : TableState) → state_of w.history ≡ Some s → w.tier.stale ≡ false → w.tier.schema ≡ defs_of w.history
   pub own : (s : TableState) → state_of w.history ≡ Some s → HaveOwnTableNames (defs_of w.history)
+  pub front : (s : TableState) → state_of w.history ≡ Some s → IsFront w.tier.schema w.history
 
 -- ---- histories
 
@@ -115,6 +129,7 @@ kept_by w w' k j x r = record {
   groups = subst AllPrint (sym k.defs) r.groups;
   known = λ s leaves fresh. (let m = state_before w.history w'.history x.more s x.is leaves in k.schema ∙ r.known m.0 m.1 (sym k.stale ∙ fresh) ∙ sym (defs_same w.history w'.history x));
   own = λ s leaves. (let m = state_before w.history w'.history x.more s x.is leaves in subst HaveOwnTableNames (sym (defs_same w.history w'.history x)) (r.own m.0 m.1));
+  front = λ s leaves. (let m = state_before w.history w'.history x.more s x.is leaves in front_then w.tier.schema w'.tier.schema w.history w'.history k.schema (defs_same w.history w'.history x) (r.front m.0 m.1));
 }
 
 pub same : (w w' : World) → w' ≡ w → Readable w → Readable w'
@@ -179,7 +194,7 @@ either_keeps false p q x = q x
 abbrev pub DefinesNone : (List Entry → List Entry → Type 0) → Type 0
 DefinesNone step = (old new : List Entry) → step old new → Adds old new
 
-around : (w w' : World) (step : List Entry → List Entry → Type 0) → DefinesNone step → Around w.shared step w.history w'.history → Adds w.history w'.history
+pub around : (w w' : World) (step : List Entry → List Entry → Type 0) → DefinesNone step → Around w.shared step w.history w'.history → Adds w.history w'.history
 around w w' step so a =
     let own = so (w.history ++ a.before) a.middle a.own in
     record {
@@ -241,18 +256,17 @@ point_reads from [] flushed end entries count a f p = subst AllRead (sym p.2) f
 point_reads from (s ∷ past) flushed end entries count a f (inl p) = subst AllRead (sym p.2) a.0
 point_reads from (s ∷ past) flushed end entries count a f (inr p) = point_reads s.until past flushed end entries count a.1 f p
 
-behind_reads : (result : Flushed) (w : World) (entries : List JournalEntry) → AllRead entries → HasReadable w.journal → HasReadable (journal_behind result w entries)
-behind_reads Whole w entries a r =
+behind_reads : (w : World) (entries : List JournalEntry) → AllRead entries → HasReadable w.journal → HasReadable (journal_behind w entries)
+behind_reads w entries a r =
     let h = batch_reads (name_sizes w) (w.journal.tail ++ entries) w.journal r (all_both HasText w.journal.tail entries r.tail a) in
     record { flushed = h.flushed; tail = h.tail; way = passed_reads w.journal.flushed (length w.history) w.journal.way r.flushed r.way }
-behind_reads Failing w entries a r = record { flushed = r.flushed; tail = all_both HasText w.journal.tail entries r.tail a; way = r.way }
 
 as_it_is : (w w' : World) → w'.history ≡ w.history → Adds w.history w'.history
 as_it_is w w' e = record { more = []; is = e ∙ sym (append-nil w.history); none = refl }
 
 kept_flushes_keeps : (entries : List JournalEntry) → AllRead entries → StageKeeps (FlushesKept entries)
 kept_flushes_keeps entries a w w' stop f r =
-    kept_by w w' (of_tier w.tier w'.tier w.tier f.tier (rests w.tier)) (subst HasReadable (sym f.journal) (behind_reads f.result w entries a (journal_of w r))) (as_it_is w w' f.history) r
+    kept_by w w' (of_tier w.tier w'.tier w.tier f.tier (rests w.tier)) (subst HasReadable (sym f.journal) (behind_reads w entries a (journal_of w r))) (as_it_is w w' f.history) r
 
 pub flushes_keeps : (entries : List JournalEntry) → AllRead entries → StageKeeps (Flushes entries)
 flushes_keeps entries a w w' stop f r = only_where_keeps w.journal.kept (FlushesKept entries) (kept_flushes_keeps entries a) w w' stop f r
@@ -290,10 +304,13 @@ slot_reads t a = (
       (mapped_read Commits (λ (s : Sealed). tt) t.unsettled))),
 )
 
+renewed_reads : (w : World) → Readable w → HasReadable (renewed w)
+renewed_reads w r = record { flushed = slot_reads w.tier r.groups; tail = tt; way = passed_reads w.journal.flushed (length w.history) w.journal.way r.flushed r.way }
+
 rotated_reads : (result : Rotation) (w : World) → Readable w → HasReadable (journal_after result w)
-rotated_reads Renewed w r = record { flushed = slot_reads w.tier r.groups; tail = tt; way = passed_reads w.journal.flushed (length w.history) w.journal.way r.flushed r.way }
+rotated_reads Renewed w r = renewed_reads w r
 rotated_reads Kept w r = journal_of w r
-rotated_reads Broken w r = journal_of w r
+rotated_reads Broken w r = renewed_reads w r
 
 rotates_keeps : StageKeeps Rotates
 rotates_keeps w w' stop q r =

@@ -1,5 +1,5 @@
 -- That what the next opening reads can be read behind each line of a run, and at its end.
-use Rattle.std.proofs.Common.{◌≡◌, inl, inr, ℕ, Bool, true, false, Option, Some, List, [], ◌∷◌, sym, subst}
+use Rattle.std.proofs.Common.{◌≡◌, inl, inr, ℕ, Bool, true, false, Option, Some, None, List, [], ◌∷◌, sym, subst}
 use Rattle.std.specs.Bool.{MatchBool}
 use Rattle.std.specs.List.{AllByRecursion}
 use Rattle.table_state.specs.Histories.{no_tables, state_of}
@@ -17,11 +17,11 @@ use Rattle.sql_subset.specs.declared.stmt.Stmt.TheVariants as statement
 use Rattle.cache_tier.specs.declared.reply.Reply.{Reply}
 use Rattle.cache_tier.specs.Steps.{Finishes, Saying, TooLong}
 use Rattle.cache_tier.specs.Worlds.{World}
-use Rattle.cache_engine.specs.Requests.{Given, IsHeard, IsSaid, LineRun, LineStep, heard, is_long}
+use Rattle.cache_engine.specs.Requests.{Given, IsHeard, IsSaid, LineGoes, LineRun, LineStep, heard, is_long}
 use Rattle.reopened_laws.specs.Leaving.{HasText, HaveOwnTableNames}
 use Rattle.reopened_laws.proofs.ReadParts.{Readable, flushes_keeps, same}
 use Rattle.reopened_laws.proofs.ReadStatements.{RequestPrints, StatementPrints}
-use Rattle.reopened_laws.proofs.ReadLines.{LinePrints, SaidPrints, step_keeps}
+use Rattle.reopened_laws.proofs.ReadLines.{LinePrints, SaidPrints, heeds_keeps, step_keeps}
 
 -- no two tables of the bank have one name, and the text of each definition that the journal has flushed reads
 pub record IsReadable (w : World) : Type 0 where
@@ -77,6 +77,12 @@ said_prints bytes said is = by (is_long bytes) is
 pub line_keeps : (base : ℕ) (w : World) (bytes : List ℕ) (w' : World) (reply : Option Reply) → LineStep base w bytes w' reply → Readable w → Readable w'
 line_keeps base w bytes w' reply (said, inl is, step) r = step_keeps base w w' said reply (said_prints bytes said is) step r
 line_keeps base w bytes w' reply (said, inr unread, step) r = same w w' unread.same r
+
+-- so does a line of which a failed call of the journal's disk may be told
+pub goes_keeps : (base : ℕ) (w : World) (bytes : List ℕ) (w' : World) (reply : Option Reply) → LineGoes base w bytes w' reply → Readable w → Readable w'
+goes_keeps base w bytes w' None goes r = line_keeps base w bytes w' None goes r
+goes_keeps base w bytes w' (Some reply) (said, inl is, counts, heeds) r = heeds_keeps base said (said_prints bytes said is) w w' reply heeds r
+goes_keeps base w bytes w' (Some reply) (said, inr unread, counts, heeds) r = same w w' unread.same r
 
 pub run_keeps : (w : World) (lines : List Given) (replies : List (Option Reply)) (w' : World) → LineRun w lines replies w' → Readable w → Readable w'
 run_keeps w [] [] w' run r = same w w' run r

@@ -313,7 +313,7 @@ less_print test (g ∷ gs) a = by (test g) (less_print test gs a.1)
     by false rest = rest
 
 dropped : (name : List ℕ) (w : World) → Readable w → Readable (record w { tier = without_group name w.tier })
-dropped name w r = record { flushed = r.flushed; tail = r.tail; way = r.way; groups = less_print _ w.tier.groups r.groups; known = r.known; own = r.own }
+dropped name w r = record { flushed = r.flushed; tail = r.tail; way = r.way; groups = less_print _ w.tier.groups r.groups; known = r.known; own = r.own; front = r.front }
 
 drop_answers_keeps : (name : List ℕ) → PartKeeps (Answers (drop_answer name))
 drop_answers_keeps name w w' reply q r = same (record w { tier = without_group name w.tier }) w' q.0 (dropped name w r)
@@ -334,7 +334,7 @@ more_print [] g a p = (p, tt)
 more_print (h ∷ gs) g a p = (a.0, more_print gs g a.1 p)
 
 made : (d : CreateGroup) (tree : Tree) (w : World) → Prints d → Readable w → Readable (record w { tier = with_new_group d tree w.tier })
-made d tree w p r = record { flushed = r.flushed; tail = r.tail; way = r.way; groups = more_print w.tier.groups _ r.groups p; known = r.known; own = r.own }
+made d tree w p r = record { flushed = r.flushed; tail = r.tail; way = r.way; groups = more_print w.tier.groups _ r.groups p; known = r.known; own = r.own; front = r.front }
 
 define_keeps : (d : CreateGroup) (tree : Tree) → Prints d → PartKeeps (Answers (define_answer d tree))
 define_keeps d tree p w w' reply q r = same (record w { tier = with_new_group d tree w.tier }) w' q.0 (made d tree w p r)

@@ -14,7 +14,7 @@ use Rattle.cache_tier.specs.CommitSteps.{sealed_own}
 use Rattle.cache_tier.specs.StandingBetween.{Stands}
 use Rattle.cache_tier.specs.TierStates.{ACommit, APassedWrite, Doubt, Doubted, Tier}
 use Rattle.cache_tier.specs.Worlds.{World}
-use Rattle.reopened_laws.proofs.ReadParts.{defs_others}
+use Rattle.reopened_laws.proofs.ReadParts.{IsFront, defs_others, front_then}
 use Rattle.run_laws.specs.Lines.{CommitIsInDoubt, IsInDoubt, IsLeft, IsLeftBy, WriteIsInDoubt}
 
 defs_behind : (h entries : List Entry) → defs_of entries ≡ [] → defs_of (h ++ entries) ≡ defs_of h
@@ -25,19 +25,11 @@ pub defs_around : (shared : List TableId) (step : List Entry → List Entry → 
 defs_around shared step old new so x =
     ap defs_of x.is ∙ defs_behind x.middle x.behind (defs_others shared x.middle x.behind x.came_behind) ∙ so (old ++ x.before) x.middle x.own ∙ defs_behind old x.before (defs_others shared old x.before x.came_before)
 
--- the schema that was a front is one still, where nothing is defined
-record IsFront (schema : List TableDef) (h : List Entry) : Type 0 where
-  more : List TableDef
-  is : defs_of h ≡ schema ++ more
-
 front_in : (w : World) → Stands w → IsFront w.tier.schema w.history
 front_in w x =
     let over = x.flow.stand.over in
     let f = x.schema.front over.backing over.leaves in
     record { more = f.0; is = sym (schema_after w.history no_tables over.backing over.leaves) ∙ f.1 }
-
-front_then : (schema schema' : List TableDef) (h h' : List Entry) → schema' ≡ schema → defs_of h' ≡ defs_of h → IsFront schema h → IsFront schema' h'
-front_then schema schema' h h' same defs x = record { more = x.more; is = defs ∙ x.is ∙ ap (λ l. l ++ x.more) (sym same) }
 
 -- what is in doubt defines nothing
 

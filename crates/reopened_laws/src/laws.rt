@@ -14,7 +14,7 @@ ghost use Rattle.tier_opening.specs.Opening.{MayOpen};
 ghost use Rattle.cache_engine.specs.Opening.{Opens};
 ghost use Rattle.cache_engine.specs.Requests.{Given, LineRun};
 ghost use Rattle.session_cli.specs.Serving.{HasFlushed, Rests};
-ghost use Rattle.reopened_laws.specs.Within.{CrashesBeforeAreSafe, CrashesWithinAreSafe, RunsAreSafe};
+ghost use Rattle.reopened_laws.specs.Within.{BrokenEndsAreSafe, BrokenLinesAreSafe, CrashesWithinAreSafe, ImportsAreSafe, RunsAreSafe};
 ghost use Rattle.reopened_laws.specs.Ending.{CrashesLeaveSites, ImportsLeaveSites, LeavesSite, RunsLeaveSites};
 ghost use Rattle.reopened_laws.specs.Leaving.{GoesOnThrough, IsKeptAt, IsLeftAt};
 
@@ -71,12 +71,16 @@ pub fn crash_law<P: Site>()
 /// each commit that was held where the last line before began, or the flush behind the last one. And a tier may be
 /// opened over what is left, where others change no table of a writethrough group behind the last line. Where all lines
 /// were answered that is said of the site as it is at the end, whether the tail was flushed (`flushed`) or wasn't
-/// (`rests`), and of a run of the program that ended with the status 0 (`program`); and so it is since the opening
-/// found the journal, with the commits that it told of. Where a call of the journal's disk failed it is said of the
-/// lines before, and of a site that was there then (`before`).
+/// (`rests`); and so it is since the opening found the journal, with the commits that it told of. Where a call of the
+/// journal's disk failed in the last line (`broken`), or in the flush at the end of the input (`unflushed`), it is said
+/// of the site as it is then, and of the call that failed, too; there a tier may be opened where others change no table
+/// of a writethrough group that the entries there leave. So it is of a run of the program that was opened, whatever its
+/// status (`program`), and of the command `import` that was opened, with nothing asked of others (`imports`).
 pub fn within_law<P: Site>()
     ensures flushed { CrashesWithinAreSafe P.Disk.state P.Disk.possible HasFlushed }
     ensures rests { CrashesWithinAreSafe P.Disk.state P.Disk.possible Rests }
+    ensures broken { BrokenLinesAreSafe P.Disk.state P.Disk.possible }
+    ensures unflushed { BrokenEndsAreSafe P.Disk.state P.Disk.possible }
     ensures program { RunsAreSafe P.Disk.state P.Disk.possible }
-    ensures before { CrashesBeforeAreSafe P.Disk.state P.Disk.possible }
+    ensures imports { ImportsAreSafe P.Disk.state P.Disk.possible }
 {}

@@ -166,7 +166,7 @@ root_named schema d tree is = by (placed_tables schema d) refl is
     by (p ∷ ps) e is = subst (IsNamed schema (table_names d)) (sym is.0.table) (named_first schema [] d.tables p ps e)
 
 -- the tier asked for the schema, where it may have been old
-told : (t : Tier) (label : List ℕ) (d : CreateGroup) (tree : Tree) → asks_schema t (says.Session label (asks_for.Statement (statement.CreateGroup d))) ≡ false → IsTreeOf (placed_tables t.schema d) tree → list_any (covers tree.root.table) t.groups ≡ false → t.stale ≡ false
+pub told : (t : Tier) (label : List ℕ) (d : CreateGroup) (tree : Tree) → asks_schema t (says.Session label (asks_for.Statement (statement.CreateGroup d))) ≡ false → IsTreeOf (placed_tables t.schema d) tree → list_any (covers tree.root.table) t.groups ≡ false → t.stale ≡ false
 told t label d tree asked is none = by t.stale asked
   where
     n : IsNamed t.schema (table_names d) tree.root.table
@@ -183,7 +183,7 @@ told t label d tree asked is none = by t.stale asked
     by true e = absurd (never_both (list_any (λ name. not (is_cached_name t name)) (table_names d)) (n.among (λ name. not (is_cached_name t name)) uncached) e)
 
 -- the definition breaks no rule of names
-named_free : (t : Tier) (s : Session) (d : CreateGroup) → refusal t s (statement.CreateGroup d) ≡ None → definition_names t.schema (definitions_of t.groups) d ≡ None
+pub named_free : (t : Tier) (s : Session) (d : CreateGroup) → refusal t s (statement.CreateGroup d) ≡ None → definition_names t.schema (definitions_of t.groups) d ≡ None
 named_free t s d e = by (definition_names t.schema (definitions_of t.groups) d) _ e
   where
     by : (o rest : Option Rule) → option_or o rest ≡ None → o ≡ None

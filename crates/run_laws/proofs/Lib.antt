@@ -18,5 +18,8 @@ pub mod KindGroups
 pub mod KindLines
 pub mod StatementLaws
 pub mod LineLaws
+pub mod NewGroups
+pub mod BrokenStatements
+pub mod BrokenLines
 pub mod RunKeeps
 pub mod ReopenLaws

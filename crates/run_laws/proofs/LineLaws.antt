@@ -108,22 +108,22 @@ moment_left base l w x = by w.tier.doubt x
     by None x = moment_stands base l w x
     by (Some d) x = moment_in_doubt base l w d.of x
 
-moment_begins : (base : ℕ) (l : Line) (w : World) → MayBegin w → MayBegin (with_moment base l w)
+pub moment_begins : (base : ℕ) (l : Line) (w : World) → MayBegin w → MayBegin (with_moment base l w)
 moment_begins base l w m = record {
   goes_on = record { left = moment_left base l w m.goes_on.left; unshared = m.goes_on.unshared };
   kinds = record { later = m.kinds.later; own = m.kinds.own };
 }
 
-moment_journalled : (base : ℕ) (l : Line) (w : World) (early : List Sealed) → IsJournalled w early → IsJournalled (with_moment base l w) early
+pub moment_journalled : (base : ℕ) (l : Line) (w : World) (early : List Sealed) → IsJournalled w early → IsJournalled (with_moment base l w) early
 moment_journalled base l w early j = quiet_kept w early (at_moment base l w.tier) j (record { log = refl; next = omega arith; groups = alike_self w.tier.groups })
 
 -- ---- the doubt
 
 -- where the line goes on the doubt is settled
-record Settled (w : World) (stop : Option Reply) (early : List Sealed) : Type 0 where
-  on : IsJournalledOn w early
-  kinds : AreOfKinds w.tier
-  ready : stop ≡ None → ReadyOn w early
+pub record Settled (w : World) (stop : Option Reply) (early : List Sealed) : Type 0 where
+  pub on : IsJournalledOn w early
+  pub kinds : AreOfKinds w.tier
+  pub ready : stop ≡ None → ReadyOn w early
 
 -- what a line leaves
 pub record Left (w : World) (early : List Sealed) : Type 0 where
@@ -149,7 +149,7 @@ write_moves : (w w' : World) (x : WriteIsInDoubt w) (b : Bool) → w'.tier ≡ s
 write_moves w w' x true e = subst (MovesLog w.tier) (sym e) (record { groups = refl; unsettled = refl; sessions = refl })
 write_moves w w' x false e = subst (MovesLog w.tier) (sym e) (record { groups = refl; unsettled = refl; sessions = refl })
 
-doubt_done : (w w' : World) (early : List Sealed) (notes : List Note) (stop : Option Reply) → MayBegin w → IsJournalled w early → DueDoubt w w' notes stop → is_broken stop ≡ false → Settled w' stop early
+pub doubt_done : (w w' : World) (early : List Sealed) (notes : List Note) (stop : Option Reply) → MayBegin w → IsJournalled w early → DueDoubt w w' notes stop → is_broken stop ≡ false → Settled w' stop early
 doubt_done w w' early notes stop m j q ok = record { on = on; kinds = kinds w.tier.doubt refl m.goes_on.left q; ready = λ end. by w.tier.doubt refl m.goes_on.left q end }
   where
     on : IsJournalledOn w' early
@@ -227,7 +227,7 @@ doubt_done w w' early notes stop m j q ok = record { on = on; kinds = kinds w.ti
 
 -- ---- all that is due
 
-due_done : (w due : World) (early : List Sealed) (notes : List Note) (stop : Option Reply) → MayBegin w → IsJournalled w early → DueWork w due notes stop → is_broken stop ≡ false → Settled due stop early
+pub due_done : (w due : World) (early : List Sealed) (notes : List Note) (stop : Option Reply) → MayBegin w → IsJournalled w early → DueWork w due notes stop → is_broken stop ≡ false → Settled due stop early
 due_done w due early notes stop m j q ok = first q.end q.first q.next
   where
     first : (end : Option Reply) → DueDoubt w q.mid q.before end → ItemFollows end (ThenItem DueRound (ThenItem DueSets DueAging)) q.mid due q.behind stop → Settled due stop early
@@ -270,7 +270,7 @@ due_done w due early notes stop m j q ok = first q.end q.first q.next
 
 -- ---- the line
 
-asks_none : (l : Line) (w w' : World) → AsksSchema l w w' None → asks_schema w'.tier l ≡ false
+pub asks_none : (l : Line) (w w' : World) → AsksSchema l w w' None → asks_schema w'.tier l ≡ false
 asks_none l w w' q = by (asks_schema w.tier l) refl q
   where
     by : (b : Bool) → asks_schema w.tier l ≡ b → OnlyWhere b Asked w w' None → asks_schema w'.tier l ≡ false

@@ -86,7 +86,7 @@ module _ (settings : Settings) (moment : ℕ) (entries : List JournalEntry) (w :
   begun_way (inl none) = subst (HasSafeWay w) (sym none) tt
   begun_way (inr here) =
       subst (HasSafeWay w) (sym here)
-      (safe_begun w.tier.next w.tier.groups w.shared w.moment w.journal.flushed w.history (matched_now (wayless w) early begun_bare) (leaves_unshared (wayless w) early begun_bare))
+      (safe_begun w.tier.groups w.shared w.moment w.journal.flushed w.history (matched_now (wayless w) early begun_bare) (leaves_unshared (wayless w) early begun_bare))
 
   pub begun_journalled : IsJournalled w early
   begun_journalled = safely w early begun_bare (begun_way j.way)

@@ -14,8 +14,8 @@ use Rattle.cache_tier.specs.TierStates.{ACommit, APassedWrite, Doubt, Doubted, S
 use Rattle.cache_tier.specs.Worlds.{OnlyWhere, World}
 use Rattle.recovery.specs.Journalled.{IsFlushed, IsJournalled, IsJournalledOn}
 use Rattle.recovery.proofs.JournalledLaws.{flushes_kept}
-use Rattle.line_laws.specs.Keeping.{is_broken}
-use Rattle.line_laws.proofs.FlushLaws.{kept_flushes, tail_flushed}
+use Rattle.line_laws.specs.Keeping.{IsBrokenOff, is_broken}
+use Rattle.line_laws.proofs.FlushLaws.{flushes_whole, kept_flushes, tail_flushed}
 use Rattle.recovery.proofs.LeftLaws.{crash_leaves}
 use Rattle.recovery.proofs.RecalledLaws.{stands_recalled}
 use Rattle.run_laws.specs.Lines.{CommitIsInDoubt, IsInDoubt, IsLeft, IsLeftBy, MayBegin, WriteIsInDoubt}
@@ -136,3 +136,7 @@ ended_kept w w' early stop left j q ok = by w.journal.kept q
     by : (b : Bool) → OnlyWhere b (FlushesKept []) w w' stop → KeepsOn w' early
     by true f = keeps_of w' early (left_moved w w' f.tier f.history f.shared f.bank f.moment left) on
     by false f = keeps_of w' early (subst IsLeft (sym f.0) left) on
+
+-- the same where that flush failed
+pub ended_broken : (w w' : World) (early : List Sealed) (stop : Option Reply) → IsJournalled w early → Finishes w w' stop → is_broken stop ≡ true → IsBrokenOff w' early
+ended_broken w w' early stop j q broken = record { tier = w'.tier; on = tail_flushed w w' early j (flushes_whole [] w w' stop j.kept q) }

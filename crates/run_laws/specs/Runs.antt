@@ -2,15 +2,16 @@
 -- project's rule, over recovery as the TimesTen Cache User's Guide tells of it.)
 
 use Rattle.std.specs.Prelude.{◌≡◌, ◌⊎◌, ℕ, true, false, List, [], ◌∷◌, ◌++◌, Option, Some, None, length}
+use Rattle.tier_base.specs.declared.code.Code.TheVariants as code
 use Rattle.table_state.specs.declared.history.Sealed.{Sealed}
 use Rattle.cache_tier.specs.declared.reply.Reply.{Reply}
 use Rattle.cache_tier.specs.Events.{with_tier}
 use Rattle.cache_tier.specs.Journals.{JournalEntry}
 use Rattle.cache_tier.specs.StandingBetween.{Stands}
-use Rattle.cache_tier.specs.Steps.{Asked, Saying, Step}
+use Rattle.cache_tier.specs.Steps.{Asked, Heeds, Saying, Step, tells}
 use Rattle.cache_tier.specs.TierStates.{Settings}
 use Rattle.cache_tier.specs.Worlds.{IsUnshared, World}
-use Rattle.line_laws.specs.Keeping.{is_broken}
+use Rattle.line_laws.specs.Keeping.{IsBrokenOff, is_broken}
 use Rattle.recovery.specs.Journalled.{CrashLeaves, IsJournalled, IsJournalledOn}
 use Rattle.recovery.specs.Recalling.{recalled}
 use Rattle.run_laws.specs.Lines.{AreOfKinds, IsLeft, MayBegin, MayGoOn}
@@ -30,6 +31,14 @@ StepKeepsKinds =
     (base : ℕ) (w w' : World) (said : Saying) (reply : Option Reply) (early : List Sealed) → MayBegin w
     → IsJournalled w early → IsLeft w' → is_broken reply ≡ false → Step base w said w' reply
     → AreOfKinds w'.tier
+
+-- Where a line may begin and the journal is the tier's, and the line's reply tells that a call of its disk failed: the
+-- journal, with all that may be there, is that of a tier then, and what was held is held.
+abbrev pub StepBreaksJournal : Type 0
+StepBreaksJournal =
+    (base : ℕ) (w w' : World) (said : Saying) (reply : Reply) (early : List Sealed) → MayBegin w
+    → IsJournalled w early → tells code.JournalFault reply.last ≡ true → Heeds base said w w' reply
+    → IsBrokenOff w' early
 
 -- What a crash leaves in this world: the entries that are flushed belong to the history, they leave the tier's catalog,
 -- and all commits that were held are held; and the tier of these entries stands over the history.

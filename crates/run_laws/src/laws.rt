@@ -1,6 +1,6 @@
 //! Laws of whole lines, each on the contract of a function that does nothing. They are this project's rules.
 
-ghost use Rattle.std.specs.Prelude.{◌≡◌, false, ℕ, List, Option, None, length};
+ghost use Rattle.std.specs.Prelude.{◌≡◌, false, true, ℕ, List, Option, None, length};
 ghost use Rattle.table_state.specs.declared.history.Sealed.{Sealed};
 ghost use Rattle.cache_tier.specs.declared.reply.Reply.{Reply};
 ghost use Rattle.cache_tier.specs.Journals.{Journal, JournalEntry};
@@ -11,16 +11,18 @@ ghost use Rattle.recovery.specs.Journalled.{IsFlushed, IsJournalled};
 ghost use Rattle.recovery.specs.Recalling.{notes_of};
 ghost use Rattle.recovery.specs.Reopening.{IsReopened};
 ghost use Rattle.recovery_laws.specs.Crashes.{AreHeld};
-ghost use Rattle.line_laws.specs.Keeping.{is_broken};
+ghost use Rattle.line_laws.specs.Keeping.{IsBrokenOff, is_broken};
 ghost use Rattle.run_laws.specs.Lines.{IsLeft, MayBegin};
-ghost use Rattle.run_laws.specs.Runs.{IsKeptOf, KeepsOn, KeepsThrough, Reopened, RunsOn, StepKeepsJournal, StepKeepsKinds, Survives};
+ghost use Rattle.run_laws.specs.Runs.{IsKeptOf, KeepsOn, KeepsThrough, Reopened, RunsOn, StepBreaksJournal, StepKeepsJournal, StepKeepsKinds, Survives};
 
 /// A line, whatever it says, keeps the journal the tier's, and what was held is held (`journal`). What is unsettled is
 /// on tables of asynchronous groups behind it, and each session has written tables of synchronous groups alone, or of
-/// none (`kinds`).
+/// none (`kinds`). Where a call of the journal's disk failed in it, the journal as it may be there is that of a tier,
+/// perhaps of the one that the line would have left, and what was held is held (`breaks`).
 pub fn line_law()
     ensures journal { StepKeepsJournal }
     ensures kinds { StepKeepsKinds }
+    ensures breaks { StepBreaksJournal }
 {}
 
 /// Where the tier stands or a ticket is in doubt, and the journal is the tier's, a crash leaves entries whose tier
@@ -35,12 +37,14 @@ pub fn run_law()
 
 /// A flush of the tail comes whole or not at all. Before it a crash leaves what is needed, as `run_law` tells; so it
 /// does behind it (`flushed`), and behind the flush at the end of the input (`ended`), whether a ticket is in doubt or
-/// not.
+/// not. Where that flush fails, the journal as it may be there is that of a tier (`ended_broken`).
 pub fn flush_law()
     ensures flushed { (w : World) (early : List Sealed) (new : Journal) → IsLeft w → IsJournalled w early
         → IsFlushed (length w.history) w.journal new → KeepsOn (record w { journal = new }) early }
     ensures ended { (w w' : World) (early : List Sealed) (stop : Option Reply) → IsLeft w → IsJournalled w early
         → Finishes w w' stop → is_broken stop ≡ false → KeepsOn w' early }
+    ensures ended_broken { (w w' : World) (early : List Sealed) (stop : Option Reply) → IsJournalled w early
+        → Finishes w w' stop → is_broken stop ≡ true → IsBrokenOff w' early }
 {}
 
 /// The tier that is opened again over a journal whose entries are all flushed keeps it: the journal is its own behind

@@ -12,7 +12,9 @@ use Rattle.cache_tier.specs.declared.reply.Reply.{Reply}
 use Rattle.cache_tier.specs.Journals.{Journal}
 use Rattle.cache_tier.specs.TierStates.{Tier}
 use Rattle.evaluator.specs.declared.change.Change.{Change}
-use Rattle.tier_journal.specs.KeptOver.{KeepsOver}
+use Rattle.tier_journal.specs.KeptOver.{IsLeftOver, KeepsOver}
+use Rattle.tier_journal.proofs.WayLaws.{leaves_at}
+use Rattle.session_cli.proofs.WayLaws.{leaves_kept}
 use Rattle.propagators.specs.Certainty.{KeepsCertain}
 use Rattle.row_types.specs.declared.rule.Rule.{Rule}
 use Rattle.stored_tier.proofs.OverLaws.{keeps_called}
@@ -115,35 +117,38 @@ imports_stay word bytes w w' reply (inl q) = by (inserts_for w.tier word bytes) 
 module _ {D : Type 0} (state : D → SiteState) (possible : D → ℕ → Held → Type 0) where
   pub imported : {E : Type 0} (r : Result (Unit {0}) E) (word bytes_of input : List ℕ) (t : Stored) (k : Option TierJournal) (d d' : D) (reply : Reply) (sink sink' : Option (List ℕ)) → bytes_of ≡ word → Serves t t (state d) (state d') (λ w w'. Tries (Imports bytes_of input) w w' reply)
       → KeepsCertain state possible d d' → Puts r sink sink' (reply_bytes (Some reply))
-      → (w : World) → IsAt (state d) w → IsStoredAs t w.tier → KeepsOver state possible d k w → w.journal.kept ≡ true → Imported r word input w sink sink' (state d')
+      → (w : World) → IsAt (state d) w → IsStoredAs t w.tier → KeepsOver state possible d k w → w.journal.kept ≡ true → Imported r word input w sink sink' (state d') (IsLeftOver state possible d')
   imported r word bytes_of input t k d d' reply sink sink' same serves certain puts w at stored keeps kept =
       let x = serves w at stored in
       let stay = imports_stay bytes_of input w x.world reply x.is in
+      let over = keeps_called state possible k d d' w x.world keeps certain stay.0 (ap (λ (a : Tier). a.schema) stay.1) x.at in
+      let still : x.world.journal.kept ≡ true = ap (λ (j : Journal). j.kept) stay.0 ∙ kept in
       record {
         world = x.world;
         at = x.at;
         reply = reply;
         is = subst (λ (b : List ℕ). Tries (Imports b input) w x.world reply) same x.is;
-        slots = in_slots state possible d' k x.world (ap (λ (j : Journal). j.kept) stay.0 ∙ kept) (keeps_called state possible k d d' w x.world keeps certain stay.0 (ap (λ (a : Tier). a.schema) stay.1) x.at);
+        slots = in_slots state possible d' k x.world still over;
+        leaves = leaves_kept state possible d' k x.world still (leaves_at state possible d' k x.world over);
         puts = puts;
       }
 
 -- only whether it went well counts
-pub imported_well : {E T : Type 0} (r : Result (Unit {0}) E) (done : Unit {0}) (word input bytes : List ℕ) (w : World) (sink sink' : Option (List ℕ)) (site : SiteState) → r ≡ Ok done → bytes ≡ input → Imported r word bytes w sink sink' site → Imported {E = T} (Ok tt) word input w sink sink' site
+pub imported_well : {E T : Type 0} {leaving : World → Type 0} (r : Result (Unit {0}) E) (done : Unit {0}) (word input bytes : List ℕ) (w : World) (sink sink' : Option (List ℕ)) (site : SiteState) → r ≡ Ok done → bytes ≡ input → Imported r word bytes w sink sink' site leaving → Imported {E = T} (Ok tt) word input w sink sink' site leaving
 imported_well (Ok d) done word input bytes w sink sink' site is same x =
-    record { world = x.world; at = x.at; reply = x.reply; is = subst (λ (b : List ℕ). Tries (Imports word b) w x.world x.reply) same x.is; slots = x.slots; puts = x.puts }
+    record { world = x.world; at = x.at; reply = x.reply; is = subst (λ (b : List ℕ). Tries (Imports word b) w x.world x.reply) same x.is; slots = x.slots; leaves = x.leaves; puts = x.puts }
 imported_well (Err e) done word input bytes w sink sink' site is same x = absurd (never is)
   where
     never : Err e ≡ Ok done → ⊥
     never e = cc
 
-pub imported_cut : {E : Type 0} (r : Result (Unit {0}) E) (e : E) (word input bytes : List ℕ) (w : World) (sink sink' : Option (List ℕ)) (site : SiteState) → r ≡ Err e → bytes ≡ input → Imported r word bytes w sink sink' site → Imported {E = Unit {0}} (Err tt) word input w sink sink' site
+pub imported_cut : {E : Type 0} {leaving : World → Type 0} (r : Result (Unit {0}) E) (e : E) (word input bytes : List ℕ) (w : World) (sink sink' : Option (List ℕ)) (site : SiteState) → r ≡ Err e → bytes ≡ input → Imported r word bytes w sink sink' site leaving → Imported {E = Unit {0}} (Err tt) word input w sink sink' site leaving
 imported_cut (Ok d) e word input bytes w sink sink' site is same x = absurd (never is)
   where
     never : Ok d ≡ Err e → ⊥
     never e = cc
 imported_cut (Err f) e word input bytes w sink sink' site is same x =
-    record { world = x.world; at = x.at; reply = x.reply; is = subst (λ (b : List ℕ). Tries (Imports word b) w x.world x.reply) same x.is; slots = x.slots; puts = x.puts }
+    record { world = x.world; at = x.at; reply = x.reply; is = subst (λ (b : List ℕ). Tries (Imports word b) w x.world x.reply) same x.is; slots = x.slots; leaves = x.leaves; puts = x.puts }
 
 -- THE ENGINE
 
@@ -185,7 +190,8 @@ import_not_source status sink sink' open_error.Memory tells is = not_source stat
 module _ {D : Type 0} (state : D → SiteState) (possible : D → ℕ → Held → Type 0) where
   -- nothing is done
   pub imports_nothing : (d : D) (k : Option TierJournal) (w : World) (written : Option (List ℕ)) (coming : Coming) → IsAt (state d) w → KeepsOver state possible d k w → w.journal.kept ≡ true → (before : Outside) → before.written ≡ written → ImportsNothing w before (seen written coming state possible d)
-  imports_nothing d k w written coming at keeps kept before silent = record { at = at; slots = in_slots state possible d k w kept keeps; silent = sym silent }
+  imports_nothing d k w written coming at keeps kept before silent =
+      record { at = at; slots = in_slots state possible d k w kept keeps; leaves = leaves_kept state possible d k w kept (leaves_at state possible d k w keeps); silent = sym silent }
 
   pub import_opened : (settings : TierSettings) (pace : Pace) (first : ℕ) (e : Engine) (status : Status) (word : List ℕ) (source source' written : Option (List ℕ)) (bases : Coming) (d m : D) (behind : Outside) → pace_of settings ≡ pace
       → IsNext (bases 0) first → OpensOver state possible first pace d m e → e.doubt ≡ None → (state d).bank_faults ≤ (state m).bank_faults → (state m).shared ≡ (state d).shared

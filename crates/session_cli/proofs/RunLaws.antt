@@ -142,16 +142,16 @@ comes_on here there once o lines lines' replies w c now left g r is are took goe
 
 -- It ends with a line that tells a failed call of the journal's disk. It went on up to there, where this held since each
 -- line.
-pub record BrokeOff (once : World → Type 0) (o : Origin) (lines : List (List ℕ)) (replies : List (Option Reply)) (w : World) : Type 0 where
+pub record BrokeOff (once : World → Type 0) (from : Given → Option Reply → World → Type 0) (o : Origin) (lines : List (List ℕ)) (replies : List (Option Reply)) (w : World) : Type 0 where
   pub comes : ComesBroken o lines replies w
   pub goes : GoesOn once o.world comes.run.before comes.run.told comes.run.mid comes.run.run
-  pub since : LedSinceEach once o.world comes.run.before comes.run.told comes.run.mid comes.run.run
+  pub since : LedSinceEach (from comes.run.last comes.run.reply) o.world comes.run.before comes.run.told comes.run.mid comes.run.run
   pub unshared : IsUnshared comes.run.mid
 
-pub broken_on : (once : World → Type 0) (o : Origin) (lines lines' : List (List ℕ)) (replies : List (Option Reply)) (w : World) (c : Comes o lines replies w) (now left : Coming) (g : Given) (r : Option Reply) (w' : World) → lines ++ g.bytes ∷ [] ≡ lines'
-    → AreLeft o.bases c.asked now → TakesBase g.bytes now left g.base → LineGoes g.base w g.bytes w' r → is_broken r ≡ true → GoesOn once o.world c.given replies w c.run → LedSinceEach once o.world c.given replies w c.run → IsUnshared w
-    → BrokeOff once o lines' (replies ++ r ∷ []) w'
-broken_on once o lines lines' replies w c now left g r w' is are took last fails goes since apart =
+pub broken_on : (once : World → Type 0) (from : Given → Option Reply → World → Type 0) (o : Origin) (lines lines' : List (List ℕ)) (replies : List (Option Reply)) (w : World) (c : Comes o lines replies w) (now left : Coming) (g : Given) (r : Option Reply) (w' : World) → lines ++ g.bytes ∷ [] ≡ lines'
+    → AreLeft o.bases c.asked now → TakesBase g.bytes now left g.base → LineGoes g.base w g.bytes w' r → is_broken r ≡ true → GoesOn once o.world c.given replies w c.run → LedSinceEach (from g r) o.world c.given replies w c.run → IsUnshared w
+    → BrokeOff once from o lines' (replies ++ r ∷ []) w'
+broken_on once from o lines lines' replies w c now left g r w' is are took last fails goes since apart =
     let t = timed_one o.bases now left c.asked g are took in
     record {
       comes = record {

@@ -17,7 +17,7 @@ use Rattle.session_cli.specs.declared.session.Session.{Session}
 use Rattle.session_cli.specs.Cutting.{cut, front_of, text_of, ended_lines, all_lines}
 use Rattle.session_cli.specs.Outside.{Outside}
 use Rattle.reply_lines.specs.Output.{Splits, Breaks}
-use Rattle.session_cli.specs.Serving.{Answered, Broken, Closes, Closing, Comes, CutShort, EndsKept, Feeds, GoesOn, HasFlushed, IsLeftAlone, LedSince, LedSinceEach, LineBroken, LineLeads, Origin, PassesReply, Responds, Rests, Serving, StandsHere, StandsIn, StopsAt, WasLeft, Whole}
+use Rattle.session_cli.specs.Serving.{Answered, BreaksFrom, Broken, Closes, Closing, Comes, CutShort, EndsKept, Feeds, GoesOn, HasFlushed, IsLeftAlone, LedSince, LedSinceEach, LineBroken, LineLeads, Origin, PassesReply, Responds, Rests, Serving, StandsHere, StandsIn, StopsAt, WasLeft, Whole}
 use Rattle.session_cli.proofs.CuttingLaws.{ended_push, rest_ended, ended_same, rest_push, front_push, front_short, text_front, take_one, take_within, all_ended, all_more}
 use Rattle.session_cli.proofs.DrainedLaws.{drained_of}
 use Rattle.reply_lines.proofs.OutputLaws.{splits_then, breaks_then}
@@ -128,11 +128,23 @@ module _ (o : Origin) (given : List ℕ) (lines : List (List ℕ)) (before behin
         let came = came_line is whole in
         answered_by o lines (s.replies ++ r.reply ∷ []) behind engine' led_here.world came.comes came.goes led_here.at (led_here.stands whole) came.since
 
+    -- it broke off the run
+    breaks_from : (v : World) → StandsHere before session.engine v → BreaksFrom behind.site behind.leaves g r.reply v
+    breaks_from v x =
+        let l = led v x in
+        record {
+          last = l.world;
+          at = l.at;
+          goes = l.goes;
+          leaves = l.leaves;
+          unshared = unshared_too session.engine.tier session.engine.doubt s.world v s.stands.left x.stands.left (x.at.shared ∙ sym s.at.shared) unshared;
+        }
+
     -- or it was the last one
-    broken_line : ended_lines given ++ line ∷ [] ≡ lines → is_broken r.reply ≡ true → LineBroken o lines (s.replies ++ r.reply ∷ []) behind.site behind.kept_once
+    broken_line : ended_lines given ++ line ∷ [] ≡ lines → is_broken r.reply ≡ true → LineBroken o lines (s.replies ++ r.reply ∷ []) behind.site behind.kept_once behind.leaves
     broken_line is fails =
-        let broke = broken_on behind.kept_once o (ended_lines given) lines s.replies s.world s.comes before.coming behind.coming g r.reply led_here.world is s.left r.took led_here.goes fails gone
-        (since_map (StandsHere before session.engine) behind.kept_once (λ v x. r.past v x) o.world s.comes.given s.replies s.world s.comes.run s.since) unshared in
+        let broke = broken_on behind.kept_once (BreaksFrom behind.site behind.leaves) o (ended_lines given) lines s.replies s.world s.comes before.coming behind.coming g r.reply led_here.world is s.left r.took led_here.goes fails gone
+        (since_map (StandsHere before session.engine) (BreaksFrom behind.site behind.leaves g r.reply) breaks_from o.world s.comes.given s.replies s.world s.comes.run s.since) unshared in
         record {
           last = led_here.world;
           comes = broke.comes;
@@ -140,6 +152,7 @@ module _ (o : Origin) (given : List ℕ) (lines : List (List ℕ)) (before behin
           since = broke.since;
           unshared = broke.unshared;
           at = led_here.at;
+          leaves = led_here.leaves;
         }
 
   -- the run stopped at it
@@ -155,7 +168,7 @@ module _ (o : Origin) (given : List ℕ) (lines : List (List ℕ)) (before behin
     where
       by : (b : Bool) → is_broken r.reply ≡ b
           → Answered Rests o lines (s.replies ++ r.reply ∷ []) behind.site behind.keeps behind.kept_once
-          ⊎ (Answered HasFlushed o lines (s.replies ++ r.reply ∷ []) behind.site behind.keeps behind.kept_once ⊎ Broken o lines (s.replies ++ r.reply ∷ []) behind.site behind.kept_once)
+          ⊎ (Answered HasFlushed o lines (s.replies ++ r.reply ∷ []) behind.site behind.keeps behind.kept_once ⊎ Broken o lines (s.replies ++ r.reply ∷ []) behind.site behind.kept_once behind.leaves)
       by true e = inr (inr (inl (broken_line (Err stop.Sink) s r unshared is e)))
       by false e = inl (answered_line (Err stop.Sink) s r unshared is e)
   stopped_line stop.Disk is s r unshared = record {

@@ -1,6 +1,5 @@
 -- A way of the journal begins between two lines.
-use Rattle.std.proofs.Common.{◌≡◌, ℕ, List, true, Option, Some, None, length, sym, ap, ◌∙◌}
-use Rattle.table_state.specs.declared.operation.Op.{Op}
+use Rattle.std.proofs.Common.{◌≡◌, ℕ, List, true, false, Option, Some, None, length, sym, ap, ◌∙◌}
 use Rattle.outside.specs.Holding.{Held}
 use Rattle.outside.specs.Sites.{SiteState}
 use Rattle.cache_tier.specs.Journals.{Journal}
@@ -13,7 +12,7 @@ use Rattle.cache_engine.proofs.WritingLaws.{written_seen}
 use Rattle.outside.specs.Others.{is_shared}
 use Rattle.tier_journal.specs.declared.journal.TierJournal.{TierJournal}
 use Rattle.tier_journal.specs.Beginning.{begun_here}
-use Rattle.tier_journal.specs.KeptOver.{KeepsOver}
+use Rattle.tier_journal.specs.KeptOver.{IsLeftOver, KeepsOver, LeavesOver}
 use Rattle.tier_journal.proofs.WayLaws.{ways_begin}
 use Rattle.stored_tier.specs.declared.tier.Tier.{Tier as Stored}
 use Rattle.stored_tier.specs.Performing.{StandsFor}
@@ -117,6 +116,11 @@ module _ {D : Type 0} (state : D → SiteState) (possible : D → ℕ → Held �
   -- a journal was kept over the disk
   pub kept_once : (d : D) (k : Option TierJournal) (w : World) → IsAt (state d) w → KeepsOver state possible d k w → w.journal.kept ≡ true → WasKept state possible w
   kept_once d k w at keeps kept = record { site = d; is = record { at = at; kept = kept; journal = k; keeps = keeps } }
+
+-- a crash leaves a point of the way of a journal that is kept
+pub leaves_kept : {D : Type 0} (state : D → SiteState) (possible : D → ℕ → Held → Type 0) (d : D) (k : Option TierJournal) (w : World) → w.journal.kept ≡ true → LeavesOver state possible d k w → IsLeftOver state possible d w
+leaves_kept state possible d None w kept none = let never : true ≡ false = sym kept ∙ none in Prim.cc
+leaves_kept state possible d (Some t) w kept x = x
 
 -- In all worlds at one site in which a tier is left so, others change no table of a writethrough group where they change
 -- none in one of them.

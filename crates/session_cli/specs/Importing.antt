@@ -54,26 +54,28 @@ Puts (Ok done) sink sink' bytes = Appends sink sink' bytes
 Puts (Err e) sink sink' bytes = (count : ℕ) × Appends sink sink' (take count bytes)
 
 -- The rows of the file went into the table of the word by a step of the console, or were refused. The reply is written,
--- or a front of it. The journal is in the slots of the site.
+-- or a front of it. The journal is in the slots of the site, and a crash leaves a point of its way.
 pub record Imported {E : Type 0} (result : Result (Unit {0}) E) (word input : List ℕ) (w : World)
-    (sink sink' : Option (List ℕ)) (site : SiteState) : Type 0 where
+    (sink sink' : Option (List ℕ)) (site : SiteState) (leaving : World → Type 0) : Type 0 where
   pub world : World
   pub at : IsAt site world
   pub reply : Reply
   pub is : Tries (Imports word input) w world reply
   pub slots : IsInSlots site world
+  pub leaves : leaving world
   pub puts : Puts result sink sink' (reply_bytes (Some reply))
 
 -- the whole source was taken, and its rows were imported
 pub record ImportedAll {E : Type 0} (result : Result (Unit {0}) E) (word input : List ℕ) (w : World)
     (before : Outside) (source : Option (List ℕ)) (behind : Outside) : Type 0 where
   pub whole : source ≡ Some []
-  pub imported : Imported result word input w before.written behind.written behind.site
+  pub imported : Imported result word input w before.written behind.written behind.site behind.leaves
 
--- nothing is done in the opened world, and nothing is written
+-- nothing is done in the opened world, and nothing is written; a crash leaves a point of the journal's way
 pub record ImportsNothing (w : World) (before behind : Outside) : Type 0 where
   pub at : IsAt behind.site w
   pub slots : IsInSlots behind.site w
+  pub leaves : behind.leaves w
   pub silent : behind.written ≡ before.written
 
 -- the same, where a front of the source was taken: less than the limit, or that much

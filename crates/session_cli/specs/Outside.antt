@@ -7,7 +7,7 @@ use Rattle.cache_tier.specs.Worlds.{World}
 use Rattle.tier_journal.specs.declared.journal.TierJournal.{TierJournal}
 use Rattle.tier_journal.specs.Keeping.{Keeps}
 use Rattle.stored_tier.specs.Sites.{IsAt}
-use Rattle.tier_journal.specs.KeptOver.{KeepsOver}
+use Rattle.tier_journal.specs.KeptOver.{IsLeftOver, KeepsOver}
 use Rattle.session_cli.specs.Timing.{Coming}
 
 -- that this journal is kept over a disk in this world
@@ -27,13 +27,14 @@ pub record WasKept {D : Type 0} (state : D → SiteState) (possible : D → ℕ 
   pub is : IsKeptNow (state site) (KeepsOver state possible site) w
 
 -- what the sink holds, where it tells that; what the clock will answer; the site; which journal is kept over its disk
--- in a world; and in which worlds one was at some time
+-- in a world; in which worlds one was at some time; and of which world's journal a crash leaves a point of the way
 pub record Outside : Type 1 where
   pub written : Option (List ℕ)
   pub coming : Coming
   pub site : SiteState
   pub keeps : Keeping
   pub kept_once : World → Type 0
+  pub leaves : World → Type 0
 
 abbrev pub seen : {D : Type 0} → Option (List ℕ) → Coming → (D → SiteState) → (D → ℕ → Held → Type 0) → D → Outside
 seen written coming state possible d =
@@ -43,6 +44,7 @@ seen written coming state possible d =
       site = state d;
       keeps = KeepsOver state possible d;
       kept_once = WasKept state possible;
+      leaves = IsLeftOver state possible d;
     }
 
 -- The site tells what it holds, and the world's journal is kept in its slots.

@@ -133,19 +133,20 @@ TellsFault (Ok done) reply = is_broken reply ≡ false
 TellsFault (Err stop.Sink) reply = Unit {0}
 TellsFault (Err stop.Disk) reply = is_broken reply ≡ true
 
--- A line led from a world, by its reply, to one at the site behind. Unless a failed call of the journal's disk is told,
--- the engine is left so there.
+-- A line led from a world, by its reply, to one at the site behind, where a crash leaves a point of the journal's way.
+-- Unless a failed call of the journal's disk is told, the engine is left so there.
 pub record LineLeads (behind : Outside) (engine' : Engine) (base : ℕ) (line : List ℕ) (reply : Option Reply) (w : World)
     : Type 0 where
   pub world : World
   pub at : IsAt behind.site world
   pub goes : LineGoes base w line world reply
+  pub leaves : behind.leaves world
   pub stands : is_broken reply ≡ false → StandsIn behind engine' world
 
 -- One line was answered: its base was taken, the request was served, and its reply passed on to the sink. So it led
 -- from each world at the site before in which the engine was left so, and others change no table of a writethrough
--- group. Where the engine was or is left so, a journal was kept over the site's disk at some time, as it was where it
--- was so before; and where it is left so now a way of the journal may begin.
+-- group. Where the engine is left so now, a journal was kept over the site's disk at some time, as it was where it was
+-- so before; and a way of the journal may begin there.
 pub record Responds (result : Result (Unit {0}) Stop) (before behind : Outside) (waiting waiting' : List ℕ)
     (engine engine' : Engine) (line : List ℕ) : Type 0 where
   pub base : ℕ
@@ -154,7 +155,6 @@ pub record Responds (result : Result (Unit {0}) Stop) (before behind : Outside) 
   pub order : IsInOrder engine'
   pub leads : (w : World) → StandsHere before engine w → IsUnshared w → LineLeads behind engine' base line reply w
   pub once : (w : World) → before.kept_once w → behind.kept_once w
-  pub past : (w : World) → StandsHere before engine w → behind.kept_once w
   pub now : (w : World) → StandsHere behind engine' w → behind.kept_once w
   pub begins : (w : World) → StandsHere behind engine' w → StandsHere behind engine' (begun_here w)
   pub tells : TellsFault result reply
@@ -225,34 +225,60 @@ pub record Answered (ends : World → World → Type 0) (o : Origin) (lines : Li
   pub drained : last.tier.doubt ≡ None → last.tier.unsettled ≡ [] → IsDrained last
   pub read : AreReadAt (length last.history) last.tier.groups
 
+-- A line led from a world to one at the site, where a crash leaves a point of the journal's way: what may be there
+-- behind a call that failed is one, and what was there before it is, too. Others change no table of a writethrough
+-- group where the line began.
+pub record BreaksFrom (site : SiteState) (leaving : World → Type 0) (g : Given) (reply : Option Reply) (w : World)
+    : Type 0 where
+  pub last : World
+  pub at : IsAt site last
+  pub goes : LineGoes g.base w g.bytes last reply
+  pub leaves : leaving last
+  pub unshared : IsUnshared w
+
 -- The run ended at the last of the lines, whose reply tells a failed call of the journal's disk. Up to there the engine
--- was left so behind each line, and a journal was kept over the disk of the site as it was then.
+-- was left so behind each line. The site is as the world says to which the last line led; and this line led to one at
+-- the site from the worlds to which the lines before it had led since each of them began, so that what a crash has left
+-- at each moment since is told, in the call that failed, too.
 pub record LineBroken (o : Origin) (lines : List (List ℕ)) (replies : List (Option Reply)) (site : SiteState)
-    (once : World → Type 0) : Type 0 where
+    (once leaving : World → Type 0) : Type 0 where
   pub last : World
   pub comes : ComesBroken o lines replies last
   pub goes : GoesOn once o.world comes.run.before comes.run.told comes.run.mid comes.run.run
-  pub since : LedSinceEach once o.world comes.run.before comes.run.told comes.run.mid comes.run.run
+  pub since : LedSinceEach (BreaksFrom site leaving comes.run.last comes.run.reply) o.world comes.run.before
+      comes.run.told comes.run.mid comes.run.run
   pub unshared : IsUnshared comes.run.mid
   pub at : IsAt site last
+  pub leaves : leaving last
 
--- The lines are answered, but the tail of the journal couldn't be flushed behind them. The last reply says so. Up to
--- there a journal was kept over the disk of the site as it was then.
+-- The flush at the end of the input led from a world to one at the site, and a call of the disk failed in it.
+pub record FailsFrom (site : SiteState) (leaving : World → Type 0) (reply : Reply) (w : World) : Type 0 where
+  pub last : World
+  pub at : IsAt site last
+  pub ended : tier_steps.Finishes w last (Some reply)
+  pub leaves : leaving last
+
+-- The lines are answered, but the tail of the journal couldn't be flushed behind them. The last reply says so. What a
+-- crash has left is told as above.
 pub record EndBroken (o : Origin) (lines : List (List ℕ)) (replies : List (Option Reply)) (site : SiteState)
-    (once : World → Type 0) : Type 0 where
+    (once leaving : World → Type 0) : Type 0 where
   pub told : List (Option Reply)
   pub ran : World
   pub comes : Comes o lines told ran
   pub goes : GoesOn once o.world comes.given told ran comes.run
-  pub since : LedSinceEach once o.world comes.given told ran comes.run
   pub last : World
   pub reply : Reply
+  pub since : LedSinceEach (FailsFrom site leaving reply) o.world comes.given told ran comes.run
   pub ended : tier_steps.Finishes ran last (Some reply)
+  pub broken : is_broken (Some reply) ≡ true
   pub at : IsAt site last
+  pub leaves : leaving last
   pub are : replies ≡ told ++ Some reply ∷ []
 
-abbrev pub Broken : Origin → List (List ℕ) → List (Option Reply) → SiteState → (World → Type 0) → Type 0
-Broken o lines replies site once = LineBroken o lines replies site once ⊎ EndBroken o lines replies site once
+abbrev pub Broken : Origin → List (List ℕ) → List (Option Reply) → SiteState → (World → Type 0) → (World → Type 0)
+    → Type 0
+Broken o lines replies site once leaving =
+    LineBroken o lines replies site once leaving ⊎ EndBroken o lines replies site once leaving
 
 -- The lines are answered, and all replies written.
 pub record Whole (ends : World → World → Type 0) (o : Origin) (lines : List (List ℕ)) (now : Outside) : Type 0 where
@@ -263,7 +289,7 @@ pub record Whole (ends : World → World → Type 0) (o : Origin) (lines : List 
 -- The run ended by a failed call of the journal's disk, and all replies are written. The last one tells it.
 pub record BrokenOff (o : Origin) (lines : List (List ℕ)) (now : Outside) : Type 0 where
   pub replies : List (Option Reply)
-  pub broken : Broken o lines replies now.site now.kept_once
+  pub broken : Broken o lines replies now.site now.kept_once now.leaves
   pub tells : now.written ≡ Some (o.written ++ replies_bytes replies)
 
 -- The lines are answered, or the run ended by a failed call of the journal's disk; but only a front of the replies is
@@ -272,7 +298,7 @@ pub record CutShort (o : Origin) (lines : List (List ℕ)) (now : Outside) : Typ
   pub replies : List (Option Reply)
   pub answered : Answered Rests o lines replies now.site now.keeps now.kept_once
       ⊎ (Answered HasFlushed o lines replies now.site now.keeps now.kept_once
-      ⊎ Broken o lines replies now.site now.kept_once)
+      ⊎ Broken o lines replies now.site now.kept_once now.leaves)
   pub count : ℕ
   pub tells : now.written ≡ Some (o.written ++ take count (replies_bytes replies))
 

@@ -4,7 +4,7 @@ ghost use Rattle.std.specs.Prelude.{◌≡◌, ◌<◌, ◌⊎◌, [], Err, IfOk
 ghost use Rattle.outside.specs.Faults.{HasCause, Rose};
 ghost use Rattle.cache_tier.specs.Worlds.{World};
 ghost use Rattle.command_line.specs.declared.settings.ClockSource.TheVariants.{Script};
-ghost use Rattle.tier_journal.specs.KeptOver.{KeepsOver};
+ghost use Rattle.tier_journal.specs.KeptOver.{IsLeftOver, KeepsOver};
 ghost use Rattle.stored_tier.specs.Sites.{IsAt};
 ghost use Rattle.stored_tier.specs.Stored.{IsStoredAs};
 ghost use Rattle.session_cli.specs.Ends.{Taken};
@@ -169,7 +169,8 @@ fn import_and_tell<K: Sink, P: Site>(
     requires { output.old ≡ [] }
     ensures imports { (w : World) → IsAt (P.Disk.state site.old) w → IsStoredAs engine.now.tier w.tier
         → KeepsOver P.Disk.state P.Disk.possible site.old engine.now.journal w → w.journal.kept ≡ true
-        → Imported result word.now bytes.now w (K.written sink.old) (K.written sink.new) (P.Disk.state site.new) }
+        → Imported result word.now bytes.now w (K.written sink.old) (K.written sink.new) (P.Disk.state site.new)
+        (IsLeftOver P.Disk.state P.Disk.possible site.new) }
     ensures cause { HasCause (K.faults sink.old) (K.faults sink.new) result }
 {
     let reply = import_rows(engine, alloc, site, word.as_bytes(), bytes);

@@ -12,6 +12,7 @@ use Rattle.sql_subset.specs.declared.stmt.Stmt.TheVariants as statement
 use Rattle.outside.specs.Holding.{Held}
 use Rattle.outside.specs.Sites.{SiteState}
 use Rattle.tier_journal.specs.declared.journal.TierJournal.{TierJournal}
+use Rattle.tier_journal.proofs.WayLaws.{kept_unless}
 use Rattle.cache_tier.specs.Routes as route
 use Rattle.cache_tier.specs.Routes.{is_only_read, is_written_through, table_name, write_route}
 use Rattle.cache_tier.specs.Rules.{named}
@@ -74,7 +75,7 @@ module _ {D : Type 0} (state : D → SiteState) (possible : D → ℕ → Held �
         at = at;
         is = executes_unrouted s write w e (told w.tier s is.stored has);
         left = λ whole. is;
-        keeps = λ whole. keeps;
+        keeps = kept_unless keeps;
       })
 
   -- passed on

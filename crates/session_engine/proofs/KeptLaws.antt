@@ -13,6 +13,7 @@ use Rattle.tier_journal.specs.declared.draft.Draft.{Draft}
 use Rattle.tier_journal.specs.Drafts.{IsDraftOf, StaysKept, is_full_draft}
 use Rattle.tier_journal.specs.KeptOver.{KeepsOver}
 use Rattle.tier_journal.proofs.DraftLaws.{full_so}
+use Rattle.tier_journal.proofs.WayLaws.{kept_unless}
 use Rattle.cache_tier.specs.JournalSteps.{journal_fault}
 use Rattle.cache_tier.specs.Journals.{JournalEntry}
 use Rattle.cache_tier.specs.Rules.{broken_if, past}
@@ -91,7 +92,7 @@ module _ {D : Type 0} (state : D → SiteState) (possible : D → ℕ → Held �
   stayed_over t new k k' d id why stays so = λ s has w at is apart keeps.
       let here = keeps_stays state possible d k k' w stays keeps in
       let it = so s has w is here in
-      record { world = w; at = at; is = it.1; stands = λ whole. it.0; keeps = λ whole. here }
+      record { world = w; at = at; is = it.1; stands = λ whole. it.0; keeps = kept_unless here }
 
   -- nothing is in doubt then
   pub settled_over : (t new : Stored) (doubt : Option Doubt) (k k' : Option TierJournal) (d d' : D) (id : SessionId) (result : Result Reply Refused) → doubt ≡ None → PerformsInOver state possible t new k k' d d' id (Executes statement.Commit) result

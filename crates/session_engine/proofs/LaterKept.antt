@@ -18,6 +18,7 @@ use Rattle.tier_journal.specs.declared.journal.TierJournal.{TierJournal}
 use Rattle.tier_journal.specs.declared.draft.Draft.{Draft}
 use Rattle.tier_journal.specs.Drafts.{IsDraftOf, StaysKept, is_full_draft}
 use Rattle.tier_journal.specs.KeptOver.{DiskIsCaused, IsWrittenOver, KeepsOver, WritesDraft, is_broken, over_disk}
+use Rattle.tier_journal.proofs.WayLaws.{kept_unless}
 use Rattle.cache_tier.specs.CommitSteps.{ends, sealed_own}
 use Rattle.cache_tier.specs.JournalSteps.{NotesKept, Records}
 use Rattle.cache_tier.specs.Journals.{Commits, JournalEntry}
@@ -75,7 +76,7 @@ unwritten_over state possible numbers t new k d id result sound none rolls = λ 
       at = r.at;
       is = ends_commit s (reply_of result) (sym (own_found numbers t id s sound has) ∙ none) w r.world r.is;
       stands = λ whole. r.stands;
-      keeps = λ whole. keeps_rest state possible k d s (reply_of result) w r.world r.is keeps;
+      keeps = kept_unless (keeps_rest state possible k d s (reply_of result) w r.world r.is keeps);
     }
 
 -- want of memory changes nothing

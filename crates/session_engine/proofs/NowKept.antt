@@ -23,6 +23,7 @@ use Rattle.tier_journal.specs.declared.draft.Draft.{Draft}
 use Rattle.tier_journal.specs.Drafts.{IsDraftOf, StaysKept, is_full_draft}
 use Rattle.tier_journal.specs.KeptOver.{DiskIsCaused, KeepsOver, WritesDraft, is_broken, over_disk}
 use Rattle.tier_journal.proofs.DraftLaws.{full_so}
+use Rattle.tier_journal.proofs.WayLaws.{kept_unless}
 use Rattle.cache_tier.specs.CommitSteps.{after_applied, sealed_own}
 use Rattle.cache_tier.specs.Events.{with_tier}
 use Rattle.cache_tier.specs.Groups.{is_synchronous}
@@ -108,8 +109,8 @@ module _ {D : Type 0} (state : D → SiteState) (possible : D → ℕ → Held �
             at = it.at;
             is = does_now numbers t id sound some on s has w it.world reply is (commits_now s w it.world reply (free s has w is keeps) applying);
             left = λ whole. it.left;
-            keeps = λ whole. keeps_called state possible k' m d' w1 it.world (x.keeps refl) certain it.is.call.journal
-                (ap (λ (a : Tier). a.schema) it.is.tier ∙ applied_schema (sealed_own w.tier s) s.label it.is.result (with_ticket w.tier)) it.at;
+            keeps = kept_unless (keeps_called state possible k' m d' w1 it.world (x.keeps.over refl) certain it.is.call.journal
+                (ap (λ (a : Tier). a.schema) it.is.tier ∙ applied_schema (sealed_own w.tier s) s.label it.is.result (with_ticket w.tier)) it.at);
           }
 
       -- the flush failed
@@ -127,5 +128,5 @@ module _ {D : Type 0} (state : D → SiteState) (possible : D → ℕ → Held �
             at = at_written state possible k' d m w (Some fault) (FlushesFitting (e ∷ [])) at x cause.bank cause.shared;
             is = does_now numbers t id sound some on s has w w1 fault is (commits_now s w w1 fault (free s has w is keeps) applying);
             left = λ whole. absurd (never_both (is_broken (Some fault)) broken whole);
-            keeps = λ whole. absurd (never_both (is_broken (Some fault)) broken whole);
+            keeps = x.keeps;
           }

@@ -27,6 +27,7 @@ use Rattle.tier_journal.specs.declared.draft.Draft.{Draft}
 use Rattle.tier_journal.specs.Drafts.{IsDraftOf, StaysKept, is_full_draft}
 use Rattle.tier_journal.specs.KeptOver.{DiskIsCaused, KeepsOver, WritesDraft, is_broken, over_disk}
 use Rattle.tier_journal.proofs.DraftLaws.{full_so}
+use Rattle.tier_journal.proofs.WayLaws.{kept_unless}
 use Rattle.cache_tier.specs.Events.{with_tier}
 use Rattle.cache_tier.specs.JournalSteps.{Flushes, FlushesFitting, journal_fault}
 use Rattle.cache_tier.specs.Journals.{JournalEntry, Numbers}
@@ -103,7 +104,7 @@ module _ {D : Type 0} (state : D → SiteState) (possible : D → ℕ → Held �
     stayed : (k k' : Option TierJournal) (d : D) (why : Refused) → StaysKept k k' → ((w : World) → StandsFor t w → KeepsOver state possible d k' w → IsRefusedBy (passing_fault w) why) → EndsPassed state possible t t None k k' d d id change (Err why)
     stayed k k' d why stays told w s has off at is apart keeps =
         let here = keeps_stays state possible d k k' w stays keeps in
-        record { world = w; at = at; is = refuses s change w why (told w is here); left = λ whole. is; keeps = λ whole. here }
+        record { world = w; at = at; is = refuses s change w why (told w is here); left = λ whole. is; keeps = kept_unless here }
 
     -- no ticket is left, or memory was wanting
     pub unnumbered_over : (k k' : Option TierJournal) (d : D) (why : Refused) → StaysKept k k' → ((a : Tier) → IsStoredAs t a → IsRefusedBy (ticket_fault a) why) → EndsPassed state possible t t None k k' d d id change (Err why)
@@ -151,8 +152,8 @@ module _ {D : Type 0} (state : D → SiteState) (possible : D → ℕ → Held �
               at = it.at;
               is = passes s change w it.world reply (free w is keeps) does;
               left = λ whole. it.left;
-              keeps = λ whole. keeps_called state possible k' m d' w1 it.world (x.keeps refl) certain it.is.call.journal
-                  (ap (λ (a : Tier). a.schema) it.is.tier ∙ passed_schema s w.tier.next it.is.ops it.is.result (with_ticket w.tier)) it.at;
+              keeps = kept_unless (keeps_called state possible k' m d' w1 it.world (x.keeps.over refl) certain it.is.call.journal
+                  (ap (λ (a : Tier). a.schema) it.is.tier ∙ passed_schema s w.tier.next it.is.ops it.is.result (with_ticket w.tier)) it.at);
             }
 
         -- the flush failed
@@ -169,7 +170,7 @@ module _ {D : Type 0} (state : D → SiteState) (possible : D → ℕ → Held �
               at = at_written state possible k' d m w (Some fault) (FlushesFitting (e ∷ [])) at x cause.bank cause.shared;
               is = passes s change w w1 fault (free w is keeps) does;
               left = λ whole. absurd (never_both (is_broken (Some fault)) broken whole);
-              keeps = λ whole. absurd (never_both (is_broken (Some fault)) broken whole);
+              keeps = x.keeps;
             }
 
 -- why the call's fault is told

@@ -10,7 +10,7 @@ use Rattle.outside.specs.Holding.{Held}
 use Rattle.outside.specs.Passing.{PassesWrite}
 use Rattle.outside.specs.Sites.{SiteState}
 use Rattle.tier_journal.specs.declared.journal.TierJournal.{TierJournal}
-use Rattle.tier_journal.specs.KeptOver.{KeepsOver, is_broken}
+use Rattle.tier_journal.specs.KeptOver.{KeepsOver, KeepsUnlessBroken, is_broken}
 use Rattle.outside.specs.declared.fault.BankError.TheVariants.{Failed}
 use Rattle.order_laws.specs.Commits.{KeepsCommitOrder}
 use Rattle.table_state.specs.declared.operation.Op.{Op}
@@ -122,8 +122,8 @@ EndsIn old new doubt before behind id part result =
 
 -- ---- where the journal may be written to
 
--- A world at the site behind, which comes so. Unless a call of the disk failed in it, the new tier is left so, and the
--- journal is kept over the disk.
+-- A world at the site behind, which comes so. A crash leaves a point of its journal's way. Unless a call of the disk
+-- failed in it, the new tier is left so, and the journal is kept over the disk.
 pub record IsEndedOver {D : Type 0} (state : D → SiteState) (possible : D → ℕ → Held → Type 0) (new : Stored)
     (doubt : Option Doubt) (k : Option TierJournal) (d : D) (stop : Option Reply) (does : World → Type 0) : Type 0
   where
@@ -131,7 +131,7 @@ pub record IsEndedOver {D : Type 0} (state : D → SiteState) (possible : D → 
     pub at : IsAt (state d) world
     pub is : does world
     pub left : is_broken stop ≡ false → IsLeft new doubt world
-    pub keeps : is_broken stop ≡ false → KeepsOver state possible d k world
+    pub keeps : KeepsUnlessBroken state possible d stop k world
 
 -- for each world at the site before, in which the old tier is left so, and over whose disk the old journal is kept
 abbrev pub LeadsOver : {D : Type 0} → (D → SiteState) → (D → ℕ → Held → Type 0) → Stored → Option Doubt → Stored

@@ -28,7 +28,7 @@ use Rattle.stored_tier.specs.declared.tier.Tier.{Tier as Stored}
 use Rattle.stored_tier.specs.Performing.{IsCaused, IsCausedOver, IsPerformedOver, KeepsSlots, Performs, PerformsOver, StandsFor, StaysWritten}
 use Rattle.stored_tier.specs.Sites.{IsAt}
 use Rattle.tier_journal.specs.Ways.{HasBecome}
-use Rattle.tier_journal.proofs.WayLaws.{leaves_as, no_more}
+use Rattle.tier_journal.proofs.WayLaws.{kept_unless, kept_unless_told, leaves_as, no_more}
 use Rattle.stored_tier.proofs.WayLaws.{at_history_of, grown_leaves}
 
 pub never_both : (b : Bool) → b ≡ true → b ≡ false → ⊥
@@ -120,12 +120,12 @@ module _ {D : Type 0} (state : D → SiteState) (possible : D → ℕ → Held �
       → PerformsOver state possible old new k k' d d' told does
   over_told old new k k' d d' stop told does so performs w at stands apart keeps =
       let it = performs w at stands apart keeps in
-      record { world = it.world; at = it.at; is = it.is; stands = λ whole. it.stands (so whole); keeps = λ whole. it.keeps (so whole) }
+      record { world = it.world; at = it.at; is = it.is; stands = λ whole. it.stands (so whole); keeps = kept_unless_told so it.keeps }
 
   -- nothing is done
   pub over_here : (t : Stored) (k : Option TierJournal) (d : D) (stop : Option Reply) (does : World → World → Type 0) → ((w : World) → StandsFor t w → does w w) → PerformsOver state possible t t k k d d stop does
   over_here t k d stop does so w at stands apart keeps =
-      record { world = w; at = at; is = so w stands; stands = λ whole. stands; keeps = λ whole. keeps }
+      record { world = w; at = at; is = so w stands; stands = λ whole. stands; keeps = kept_unless keeps }
 
 -- with another tier, whose schema is the same
 pub keeps_tier : {D : Type 0} (state : D → SiteState) (possible : D → ℕ → Held → Type 0) (d : D) (k : Option TierJournal) (w : World) (a : Tier) → a.schema ≡ w.tier.schema → KeepsOver state possible d k w → KeepsOver state possible d k (with_tier a w)
@@ -163,7 +163,7 @@ module _ {D : Type 0} (state : D → SiteState) (possible : D → ℕ → Held �
         at = it.at;
         is = it.is;
         stands = λ whole. it.stands;
-        keeps = λ whole. keeps_called state possible k' d d' w it.world (keeps_stays state possible d k k' w stays keeps) certain same.journal same.schema it.at;
+        keeps = kept_unless (keeps_called state possible k' d d' w it.world (keeps_stays state possible d k k' w stays keeps) certain same.journal same.schema it.at);
       }
 
   -- what is written, and then a quiet answer of the tier
@@ -178,7 +178,7 @@ module _ {D : Type 0} (state : D → SiteState) (possible : D → ℕ → Held �
         at = record { there = at1.there; told = at1.told; history = at1.history; faults = at1.faults; moment = at1.moment; shared = at1.shared };
         is = record { mid = w1; stop = None; first = x.is; next = (ap (λ (a : Answer). record w1 { tier = a.0 }) (sym same), is ∙ ap (λ (a : Answer). a.1) (sym same)) };
         stands = λ whole. stands_written new (with_tier (answer w).0 w) x.journal x.faults (state d').moment stands;
-        keeps = λ whole. keeps_tier state possible d' k w1 (answer w).0 schema (x.keeps refl);
+        keeps = kept_unless (keeps_tier state possible d' k w1 (answer w).0 schema (x.keeps.over refl));
       }
 
   -- what is written ends the line, and the run
@@ -189,7 +189,7 @@ module _ {D : Type 0} (state : D → SiteState) (possible : D → ℕ → Held �
     at = at_written state possible k d d' w (Some reply) stage at x bank shared;
     is = record { mid = over_disk x.journal x.faults (state d').moment w; stop = Some reply; first = x.is; next = (refl, refl) };
     stands = λ whole. absurd (never_both (is_broken (Some reply)) broken whole);
-    keeps = λ whole. absurd (never_both (is_broken (Some reply)) broken whole);
+    keeps = x.keeps;
   }
 
   -- the journal has no room for the entry: 119, and all stays
@@ -205,7 +205,7 @@ module _ {D : Type 0} (state : D → SiteState) (possible : D → ℕ → Held �
       next = (refl, is);
     };
     stands = λ whole. stands;
-    keeps = λ whole. keeps;
+    keeps = kept_unless keeps;
   }
 
 -- of a call of the journal's disk, and then of the bank

@@ -42,6 +42,7 @@ use Rattle.stored_tier.specs.declared.tier.Tier.{Tier as Stored}
 use Rattle.propagators.specs.Certainty.{KeepsCertain}
 use Rattle.tier_journal.specs.declared.journal.TierJournal.{TierJournal}
 use Rattle.tier_journal.specs.KeptOver.{DiskIsCaused, WritesOver, is_broken, over_disk}
+use Rattle.tier_journal.proofs.WayLaws.{kept_unless_told}
 use Rattle.stored_tier.specs.Draining.{AppliesAll, IsEnded, SettlesAll, settled_reply, settled_stop}
 use Rattle.stored_tier.specs.Performing.{IsCaused, IsCausedOver, Performs, PerformsOver, StandsFor, stop_of}
 use Rattle.stored_tier.specs.Refusing.{TellsDifference, TellsRoundEnd}
@@ -324,7 +325,7 @@ module _ {D : Type 0} (state : D → SiteState) (possible : D → ℕ → Held �
         at = at_written state possible k' d d' w (Some reply) (Flushes []) at x cause.bank cause.shared;
         is = record { mid = w'; stop = Some reply; first = x.is; next = (refl, refl) };
         stands = λ whole. absurd (never_both (is_broken (Some reply)) broken whole);
-        keeps = λ whole. absurd (never_both (is_broken (Some reply)) broken whole);
+        keeps = x.keeps;
       }
 
   -- the flush, what is applied behind it, and the rotation
@@ -338,14 +339,14 @@ module _ {D : Type 0} (state : D → SiteState) (possible : D → ℕ → Held �
       let w1 : World = over_disk x.journal x.faults (state d1).moment w in
       let it = performs w1 (at_written state possible k1 d d1 w None (Flushes []) at x cause.bank cause.shared) (stands_written t w x.journal x.faults (state d1).moment stands) apart in
       let did = applied_of applied w1 it.world it.is in
-      let over = keeps_called state possible k1 d1 d2 w1 it.world (x.keeps refl) certain did.journal did.schema it.at in
+      let over = keeps_called state possible k1 d1 d2 w1 it.world (x.keeps.over refl) certain did.journal did.schema it.at in
       let last = turns it.world it.at it.stands (still_apart w1 it.world did apart) over in
       record {
         world = last.world;
         at = last.at;
         is = round_of applied turned result ended w w1 it.world last.world x.is it.is last.is;
         stands = λ whole. last.stands (whole_of applied turned result ended whole);
-        keeps = λ whole. last.keeps (whole_of applied turned result ended whole);
+        keeps = kept_unless_told (whole_of applied turned result ended) last.keeps;
       }
     where
       applied_of : (result : Result ℕ Reply) (w w' : World) → AppliesAll w w' result → StaysSo w w'

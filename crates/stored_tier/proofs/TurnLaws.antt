@@ -15,6 +15,7 @@ use Rattle.tier_journal.specs.Batches.{Holds}
 use Rattle.table_defs.specs.declared.definition.TableDef.{TableDef}
 use Rattle.tier_journal.specs.KeptOver.{DiskIsCaused, KeepsOver, over_disk}
 use Rattle.tier_journal.specs.Turning.{TurnsOver, is_long_kept}
+use Rattle.tier_journal.proofs.WayLaws.{kept_unless}
 use Rattle.stored_tier.specs.declared.clock.Pace.{Pace}
 use Rattle.stored_tier.specs.declared.tier.Tier.{Tier as Stored}
 use Rattle.stored_tier.specs.NewSlots.{begun_entries}
@@ -82,7 +83,7 @@ module _ {D : Type 0} (state : D → SiteState) (possible : D → ℕ → Held �
         at = at;
         is = subst (λ b. MatchBool b (Rotates w w None) (Passes w w None)) (sym so) (refl, refl);
         stands = λ whole. stands;
-        keeps = λ whole. over;
+        keeps = kept_unless over;
       }
 
   -- memory was wanting for the entries
@@ -104,7 +105,7 @@ module _ {D : Type 0} (state : D → SiteState) (possible : D → ℕ → Held �
           end = refl;
         });
         stands = λ whole. subst (λ (x : Stored). StandsFor x w) (sym same) stands;
-        keeps = λ whole. over;
+        keeps = kept_unless over;
       }
 
   -- the rotation is tried

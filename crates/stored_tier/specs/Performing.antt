@@ -27,7 +27,7 @@ use Rattle.stored_tier.specs.declared.tier.Tier.{Tier as Stored}
 use Rattle.stored_tier.specs.Sites.{IsAt}
 use Rattle.outside.specs.Sites.{SiteState}
 use Rattle.tier_journal.specs.declared.journal.TierJournal.{TierJournal}
-use Rattle.tier_journal.specs.KeptOver.{KeepsOver, is_broken}
+use Rattle.tier_journal.specs.KeptOver.{KeepsOver, KeepsUnlessBroken, is_broken}
 use Rattle.stored_tier.specs.Stored.{HasSession, HidesRows, IsStoredAs, ShowsRows}
 
 -- an operation of these is on the table
@@ -76,15 +76,16 @@ abbrev pub Performs : Stored → Stored → SiteState → SiteState → (World �
 Performs old new before behind does =
     (w : World) → IsAt before w → StandsFor old w → IsUnshared w → IsPerformed new behind (does w)
 
--- The same of what may write to the journal: a world at the site behind, that comes so. Unless a call of the disk
--- failed in it, after which the run ends, the new tier stands for it, and the journal is kept over the disk.
+-- The same of what may write to the journal: a world at the site behind, that comes so. A crash leaves a point of its
+-- journal's way. Unless a call of the disk failed in it, after which the run ends, the new tier stands for it, and the
+-- journal is kept over the disk.
 pub record IsPerformedOver {D : Type 0} (state : D → SiteState) (possible : D → ℕ → Held → Type 0) (new : Stored)
     (k : Option TierJournal) (d : D) (stop : Option Reply) (does : World → Type 0) : Type 0 where
   pub world : World
   pub at : IsAt (state d) world
   pub is : does world
   pub stands : is_broken stop ≡ false → StandsFor new world
-  pub keeps : is_broken stop ≡ false → KeepsOver state possible d k world
+  pub keeps : KeepsUnlessBroken state possible d stop k world
 
 -- for each world at the site before, for which the old tier stands, and over whose disk the old journal is kept
 abbrev pub PerformsOver : {D : Type 0} → (D → SiteState) → (D → ℕ → Held → Type 0) → Stored → Stored

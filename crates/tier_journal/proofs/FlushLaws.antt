@@ -2,6 +2,7 @@
 use Rattle.std.proofs.Common.{◌≡◌, ℕ, ◌+◌, ◌≤◌, Bool, true, false, ◌&&◌, cond, Option, Some, None, List, [], ◌∷◌, ◌++◌, refl, sym, ap, subst, ◌∙◌, arith, append-nil}
 use Rattle.std.specs.Bool.{MatchBool}
 use Rattle.std.specs.Option.{IsSome}
+use Rattle.std.specs.List.{AllByRecursion}
 use Rattle.std.proofs.lemmas.Option.{same_Some}
 use Rattle.tier_base.specs.declared.code.Code.TheVariants as code
 use Rattle.table_defs.specs.declared.definition.TableDef.{TableDef}
@@ -20,6 +21,7 @@ use Rattle.tier_base.specs.declared.limit.Limit.TheVariants as limit
 use Rattle.tier_journal.specs.declared.journal.TierJournal.{TierJournal}
 use Rattle.tier_journal.specs.Keeping.{Keeps, KeepsOn, version_in}
 use Rattle.tier_journal.specs.Leaving.{GivesEither, LeftByFlush}
+use Rattle.tier_journal.specs.Writing.{HasTables}
 use Rattle.tier_journal.specs.declared.batch.Batch.{Batch}
 use Rattle.tier_journal.specs.Batches.{Holds}
 use Rattle.tier_journal.specs.Keeping.{with_tail}
@@ -27,7 +29,7 @@ use Rattle.tier_journal.specs.declared.draft.Draft.{Draft}
 use Rattle.tier_journal.specs.declared.draft.Draft.TheVariants.{Fits, Full, Unkept}
 use Rattle.tier_journal.specs.Drafts.{FitsBehind, IsDraftOf, is_full_draft}
 use Rattle.tier_journal.proofs.DraftLaws.{full_so}
-use Rattle.tier_journal.proofs.WayLaws.{flushed_tables, leaves_as, on_way, turned_leaves}
+use Rattle.tier_journal.proofs.WayLaws.{flushed_tables, kept_unless, leaves_as, on_way, turned_leaves, with_batch}
 use Rattle.tier_journal.specs.KeptOver.{IsOver, IsWrittenOver, KeepsOver, TellsSame, WritesOver, is_broken, over_disk}
 
 abbrev world_of : World → Journal → ℕ → World
@@ -62,7 +64,7 @@ module _ {D : Type 0} (state : D → SiteState) (possible : D → ℕ → Held �
         later = omega arith;
         told = λ o told. record { there = o; told = told; same = refl };
         is = subst (λ (x : World). stage w x stop) (sym same) is;
-        keeps = λ whole. subst (λ (x : World). KeepsOver state possible d k x) (sym same) over;
+        keeps = kept_unless (subst (λ (x : World). KeepsOver state possible d k x) (sym same) over);
       }
 
   -- where no journal is kept, nothing is flushed or noted
@@ -83,7 +85,7 @@ module _ {D : Type 0} (state : D → SiteState) (possible : D → ℕ → Held �
   pub flushed_over : (t t' : TierJournal) (d d' : D) (w : World) (entries : List JournalEntry) → w.moment ≡ (state d).moment → (over : IsOver state possible d t w) → (state d).moment ≤ (state d').moment
       → KeepsOn state possible d' w.tier.schema t' over.there (flushed_with (name_size w.tier.schema) entries w.journal) → version_in t' ≡ version_in t → Leaves state possible d d' (LeftByFlush w.tier.schema over.there w.journal entries) → IsWrittenOver state possible (Some t') d d' None (Flushes entries) w
   flushed_over t t' d d' w entries now over later on version left =
-      let j : Journal = journal_behind Whole w entries in
+      let j : Journal = journal_behind w entries in
       let w' : World = world_of w j (state d').moment in
       record {
         journal = j;
@@ -103,7 +105,7 @@ module _ {D : Type 0} (state : D → SiteState) (possible : D → ℕ → Held �
           shared = refl;
           end = refl;
         });
-        keeps = λ whole. record {
+        keeps = kept_unless (record {
           there = on.now;
           certain = on.certain;
           keeps = on_way w.tier.schema t' on.now.slots (journal_with w entries) j.way on.keeps;
@@ -113,25 +115,25 @@ module _ {D : Type 0} (state : D → SiteState) (possible : D → ℕ → Held �
               (flushed_tables w.tier.schema t' on.now.slots (flushed_with (name_size w.tier.schema) entries w.journal) on.keeps)
               (subst (λ (l : List JournalEntry). Leaves state possible d d' (GivesEither w.tier.schema over.there w.journal.flushed l)) (sym (flushed_all (name_size w.tier.schema) entries w.journal)) left)
               w.journal.way over.leaves;
-        };
+        });
       }
 
-  -- a call of the disk failed
+  -- A call of the disk failed. The entries' tables are the schema's, so what may be there is a point of the way, too.
   pub failed_over : IsRead state possible → (t t' : TierJournal) (d d' : D) (w : World) (entries : List JournalEntry) (reply : Reply) → w.moment ≡ (state d).moment → (over : IsOver state possible d t w)
-      → (IsSome (state d).held → IsSome (state d').held) → Leaves state possible d d' (LeftByFlush w.tier.schema over.there w.journal entries) → reply ≡ faulty code.JournalFault → IsWrittenOver state possible (Some t') d d' (Some reply) (Flushes entries) w
-  failed_over read t t' d d' w entries reply now over tells leaves is =
-      let j : Journal = journal_behind Failing w entries in
+      → AllByRecursion (HasTables w.tier.schema) entries → (IsSome (state d).held → IsSome (state d').held) → Leaves state possible d d' (LeftByFlush w.tier.schema over.there w.journal entries) → reply ≡ faulty code.JournalFault → IsWrittenOver state possible (Some t') d d' (Some reply) (Flushes entries) w
+  failed_over read t t' d d' w entries reply now over tables tells leaves is =
+      let j : Journal = journal_behind w entries in
       let w' : World = over_disk j (w.disk_faults + 1) (state d').moment w in
       let later : (state d).moment ≤ (state d').moment = leaves.later in
+      let n = still_some (state d').held (tells (is_some (state d).held over.there over.certain.told)) in
+      let last = leaves.each (state d').moment n.0 later (omega arith) (read d' n.0 n.1) in
       record {
         journal = j;
         faults = w.disk_faults + 1;
         later = later;
         told = λ o told.
-            let n = still_some (state d').held (tells (is_some (state d).held o told)) in
             let same : over.there ≡ o = same_Some over.there o (sym over.certain.told ∙ told) in
-            let left = leaves.each (state d').moment n.0 later (omega arith) (read d' n.0 n.1) in
-            record { there = n.0; told = n.1; same = left.beside ∙ ap (λ (x : Held). x.history) same };
+            record { there = n.0; told = n.1; same = last.beside ∙ ap (λ (x : Held). x.history) same };
         is = kept_so d t w (FlushesKept entries w w' (Some reply)) (Passes w w' (Some reply)) over (record {
           result = Failing;
           tier = refl;
@@ -143,7 +145,18 @@ module _ {D : Type 0} (state : D → SiteState) (possible : D → ℕ → Held �
           shared = refl;
           end = ap Some is;
         });
-        keeps = λ whole. absurd (never (ap (λ (r : Reply). is_broken (Some r)) (sym is) ∙ whole));
+        keeps = record {
+          leaves = record {
+            there = n.0;
+            told = n.1;
+            leaves =
+                turned_leaves state possible d d' over.there n.0 w w' over.certain last.beside refl refl (flushed_tables w.tier.schema t over.there.slots w.journal over.keeps)
+                (subst (AllByRecursion (HasTables w.tier.schema)) (sym (flushed_all (name_size w.tier.schema) entries w.journal)) (with_batch w.tier.schema t over.there.slots w.journal entries over.keeps tables))
+                (subst (λ (l : List JournalEntry). Leaves state possible d d' (GivesEither w.tier.schema over.there w.journal.flushed l)) (sym (flushed_all (name_size w.tier.schema) entries w.journal)) leaves)
+                w.journal.way over.leaves;
+          };
+          over = λ whole. absurd (never (ap (λ (r : Reply). is_broken (Some r)) (sym is) ∙ whole));
+        };
       }
     where
       never : true ≡ false → ⊥
@@ -162,13 +175,13 @@ module _ {D : Type 0} (state : D → SiteState) (possible : D → ℕ → Held �
         later = omega arith;
         told = λ o told. record { there = o; told = told; same = refl };
         is = kept_so d t w (NotesKept e w w' None) (Passes w w' None) over (same, refl);
-        keeps = λ whole. record {
+        keeps = kept_unless (record {
           there = over.there;
           certain = over.certain;
           keeps = keeps;
           version = version ∙ over.version;
           leaves = leaves_as state possible d over.there w w' w.journal.way refl refl refl over.leaves;
-        };
+        });
       }
 
   -- a flush of entries that fit
@@ -235,7 +248,7 @@ module _ {D : Type 0} (state : D → SiteState) (possible : D → ℕ → Held �
         → ((schema : List TableDef) (o : Held) (j : Journal) (entries : List JournalEntry) → Certain state possible d o → Keeps schema t o.slots j → Holds (version_in t) schema b entries → Leaves state possible d d' (LeftByFlush schema o j entries))
         → reply ≡ faulty code.JournalFault → IsWrittenOver state possible (Some t') d d' (Some reply) (Flushes (e ∷ [])) w
     fits_failed read t' d' reply now tells crash is =
-        failed_over read t t' d d' w (e ∷ []) reply now over_it tells (crash w.tier.schema over_it.there w.journal (e ∷ []) over_it.certain over_it.keeps holds_it) is
+        failed_over read t t' d d' w (e ∷ []) reply now over_it holds_it.tables tells (crash w.tier.schema over_it.there w.journal (e ∷ []) over_it.certain over_it.keeps holds_it) is
 
     pub fits_noted : (t' : TierJournal) → w.moment ≡ (state d).moment
         → ((schema : List TableDef) (slots : Slots) (j : Journal) (entries : List JournalEntry) → Keeps schema t slots j → Holds (version_in t) schema b entries → Keeps schema t' slots (with_tail entries j))

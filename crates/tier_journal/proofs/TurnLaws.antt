@@ -1,5 +1,6 @@
 -- The other slot that is begun anew, in the worlds whose journal is kept over the disk.
 use Rattle.std.proofs.Common.{◌≡◌, ℕ, ◌+◌, ◌≤◌, true, false, Option, Some, None, refl, sym, ap, subst, ◌∙◌, arith}
+use Rattle.std.specs.List.{AllByRecursion}
 use Rattle.std.specs.Option.{IsSome}
 use Rattle.std.proofs.lemmas.Option.{same_Some}
 use Rattle.tier_base.specs.declared.code.Code.TheVariants as code
@@ -9,14 +10,15 @@ use Rattle.outside.specs.Sites.{SiteState}
 use Rattle.cache_tier.specs.declared.reply.Reply.{Reply}
 use Rattle.cache_tier.specs.Journals.{Journal, rotated}
 use Rattle.cache_tier.specs.JournalSteps.{name_size}
-use Rattle.cache_tier.specs.Rotations.{Broken, Kept, Renewed, Rotates, journal_after, slot_entries}
+use Rattle.cache_tier.specs.Rotations.{Broken, Kept, Renewed, Rotates, renewed, slot_entries}
 use Rattle.cache_tier.specs.Worlds.{World, faulty}
 use Rattle.tier_journal.specs.declared.journal.TierJournal.{TierJournal}
 use Rattle.tier_journal.specs.Keeping.{KeepsOn, version_in}
 use Rattle.tier_journal.specs.Leaving.{LeftByRotation}
+use Rattle.tier_journal.specs.Writing.{HasTables}
 use Rattle.tier_journal.specs.KeptOver.{IsOver, IsWrittenOver, KeepsOver, TellsSame, is_broken, over_disk}
 use Rattle.tier_journal.proofs.FlushLaws.{IsRead, is_some, still_over, still_some}
-use Rattle.tier_journal.proofs.WayLaws.{flushed_tables, on_way, turned_leaves}
+use Rattle.tier_journal.proofs.WayLaws.{flushed_tables, kept_unless, on_way, turned_leaves}
 
 -- the journal stays
 stays_kept : (w : World) → Rotates w w None
@@ -48,7 +50,7 @@ module _ {D : Type 0} (state : D → SiteState) (possible : D → ℕ → Held �
       → KeepsOn state possible d' w.tier.schema t' over.there (rotated (name_size w.tier.schema) (slot_entries w.tier) w.journal) → version_in t' ≡ 2 → Leaves state possible d d' (LeftByRotation w.tier.schema over.there w.journal (slot_entries w.tier))
       → IsWrittenOver state possible (Some t') d d' None Rotates w
   turned_over t t' d d' w now over later on version left =
-      let j : Journal = journal_after Renewed w in
+      let j : Journal = renewed w in
       let w' : World = over_disk j w.disk_faults (state d').moment w in
       record {
         journal = j;
@@ -68,31 +70,33 @@ module _ {D : Type 0} (state : D → SiteState) (possible : D → ℕ → Held �
           shared = refl;
           end = refl;
         };
-        keeps = λ whole. record {
+        keeps = kept_unless (record {
           there = on.now;
           certain = on.certain;
           keeps = on_way w.tier.schema t' on.now.slots (rotated (name_size w.tier.schema) (slot_entries w.tier) w.journal) j.way on.keeps;
           version = version;
           leaves = turned_leaves state possible d d' over.there on.now w w' over.certain on.beside refl refl (flushed_tables w.tier.schema t over.there.slots w.journal over.keeps)
               (flushed_tables w.tier.schema t' on.now.slots (rotated (name_size w.tier.schema) (slot_entries w.tier) w.journal) on.keeps) left w.journal.way over.leaves;
-        };
+        });
       }
 
-  -- a call of the disk failed
+  -- A call of the disk failed. The tables of the entries are the schema's, so what may be there is a point of the way,
+  -- too.
   pub broken_over : IsRead state possible → (t t' : TierJournal) (d d' : D) (w : World) (reply : Reply) → w.moment ≡ (state d).moment → (over : IsOver state possible d t w)
-      → (IsSome (state d).held → IsSome (state d').held) → Leaves state possible d d' (LeftByRotation w.tier.schema over.there w.journal (slot_entries w.tier)) → reply ≡ faulty code.JournalFault
+      → AllByRecursion (HasTables w.tier.schema) (slot_entries w.tier) → (IsSome (state d).held → IsSome (state d').held) → Leaves state possible d d' (LeftByRotation w.tier.schema over.there w.journal (slot_entries w.tier)) → reply ≡ faulty code.JournalFault
       → IsWrittenOver state possible (Some t') d d' (Some reply) Rotates w
-  broken_over read t t' d d' w reply now over tells leaves is =
+  broken_over read t t' d d' w reply now over tables tells leaves is =
       let later : (state d).moment ≤ (state d').moment = leaves.later in
+      let n = still_some (state d').held (tells (is_some (state d).held over.there over.certain.told)) in
+      let last = leaves.each (state d').moment n.0 later (omega arith) (read d' n.0 n.1) in
+      let w' : World = over_disk (renewed w) (w.disk_faults + 1) (state d').moment w in
       record {
-        journal = w.journal;
+        journal = renewed w;
         faults = w.disk_faults + 1;
         later = later;
         told = λ o told.
-            let n = still_some (state d').held (tells (is_some (state d).held o told)) in
             let same : over.there ≡ o = same_Some over.there o (sym over.certain.told ∙ told) in
-            let left = leaves.each (state d').moment n.0 later (omega arith) (read d' n.0 n.1) in
-            record { there = n.0; told = n.1; same = left.beside ∙ ap (λ (x : Held). x.history) same };
+            record { there = n.0; told = n.1; same = last.beside ∙ ap (λ (x : Held). x.history) same };
         is = record {
           result = Broken;
           tier = refl;
@@ -104,7 +108,14 @@ module _ {D : Type 0} (state : D → SiteState) (possible : D → ℕ → Held �
           shared = refl;
           end = ap Some is;
         };
-        keeps = λ whole. absurd (never (ap (λ (r : Reply). is_broken (Some r)) (sym is) ∙ whole));
+        keeps = record {
+          leaves = record {
+            there = n.0;
+            told = n.1;
+            leaves = turned_leaves state possible d d' over.there n.0 w w' over.certain last.beside refl refl (flushed_tables w.tier.schema t over.there.slots w.journal over.keeps) tables leaves w.journal.way over.leaves;
+          };
+          over = λ whole. absurd (never (ap (λ (r : Reply). is_broken (Some r)) (sym is) ∙ whole));
+        };
       }
     where
       never : true ≡ false → ⊥

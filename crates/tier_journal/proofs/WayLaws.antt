@@ -1,5 +1,5 @@
 -- Points on the way of a journal, over what writes to it.
-use Rattle.std.proofs.Common.{◌≡◌, ℕ, ◌≤◌, ◌⊎◌, inl, inr, Option, Some, None, List, [], ◌∷◌, ◌++◌, length, take, refl, sym, ap, subst, ◌∙◌, arith, append-nil}
+use Rattle.std.proofs.Common.{◌≡◌, ℕ, ◌≤◌, ◌⊎◌, false, inl, inr, Option, Some, None, List, [], ◌∷◌, ◌++◌, length, take, refl, sym, ap, subst, ◌∙◌, arith, append-nil, append_assoc}
 use Rattle.std.specs.List.{AllByRecursion}
 use Rattle.std.proofs.lemmas.Bool.{cases_lt}
 use Rattle.std.proofs.lemmas.Option.{same_Some}
@@ -12,12 +12,14 @@ use Rattle.cache_tier.specs.Journals.{Journal, JournalEntry, Stretch, Way, passe
 use Rattle.cache_tier.specs.WayPoints.{IsPoint, turned_at}
 use Rattle.cache_tier.specs.Worlds.{World}
 use Rattle.commit_journal.proofs.TailLaws.{rest_bytes, rest_gives}
+use Rattle.cache_tier.specs.declared.reply.Reply.{Reply}
+use Rattle.tier_journal.proofs.Lists.{all_append}
 use Rattle.tier_journal.specs.declared.journal.TierJournal.{TierJournal}
 use Rattle.tier_journal.specs.Keeping.{Keeps}
 use Rattle.tier_journal.specs.Leaving.{GivesEither, GivesEntries}
 use Rattle.tier_journal.specs.Writing.{HasTables, written_all}
 use Rattle.tier_journal.specs.Beginning.{WaysMayBegin, begun_here}
-use Rattle.tier_journal.specs.KeptOver.{IsOver, KeepsOver, TellsSame}
+use Rattle.tier_journal.specs.KeptOver.{IsOver, KeepsOver, KeepsUnlessBroken, LeavesOver, TellsSame, is_broken}
 use Rattle.tier_journal.specs.Ways.{HasBecome, IsOnWay, LeavesOnWay, LeavesPoints}
 
 abbrev pub stretch_of : List JournalEntry → ℕ → Stretch
@@ -63,6 +65,11 @@ front_tables schema (x ∷ xs) ys all = (all.0, front_tables schema xs ys all.1)
 pub flushed_tables : (schema : List TableDef) (t : TierJournal) (slots : Slots) (j : Journal) → Keeps schema t slots j → AllByRecursion (HasTables schema) j.flushed
 flushed_tables schema t slots j k = front_tables schema j.flushed j.tail k.tables
 
+-- so are those of the tail, and of entries behind it
+pub with_batch : (schema : List TableDef) (t : TierJournal) (slots : Slots) (j : Journal) (entries : List JournalEntry) → Keeps schema t slots j → AllByRecursion (HasTables schema) entries → AllByRecursion (HasTables schema) (j.flushed ++ (j.tail ++ entries))
+with_batch schema t slots j entries k tables =
+    subst (AllByRecursion (HasTables schema)) (append_assoc j.flushed j.tail entries) (all_append (HasTables schema) (j.flushed ++ j.tail) entries k.tables tables)
+
 -- the way says nothing of what is kept
 pub on_way : (schema : List TableDef) (t : TierJournal) (slots : Slots) (j : Journal) (way : Option Way) → Keeps schema t slots j → Keeps schema t slots (record j { way = way })
 on_way schema t slots j way k = record { kept = k.kept; rests = k.rests; written = k.written; generation = k.generation; tables = k.tables }
@@ -71,6 +78,11 @@ pub no_more : (schema : List TableDef) → HasBecome schema schema
 no_more schema = record { more = []; is = sym (append-nil schema) }
 
 module _ {D : Type 0} (state : D → SiteState) (possible : D → ℕ → Held → Type 0) where
+  -- where the journal is kept
+  pub leaves_at : (d : D) (k : Option TierJournal) (w : World) → KeepsOver state possible d k w → LeavesOver state possible d k w
+  leaves_at d None w over = over
+  leaves_at d (Some t) w over = record { there = over.there; told = over.certain.told; leaves = over.leaves }
+
   -- a world of the same tables, entries and history
   pub leaves_as : (d : D) (o : Held) (w w' : World) (way : Option Way) → w'.tier.schema ≡ w.tier.schema → w'.history ≡ w.history → w'.journal.flushed ≡ w.journal.flushed → LeavesOnWay state possible d o w way → LeavesOnWay state possible d o w' way
   leaves_as d o w w' None schema history flushed leaves = tt
@@ -197,3 +209,11 @@ module _ {D : Type 0} (state : D → SiteState) (possible : D → ℕ → Held �
     version = over.version;
     leaves = begun_points d t w now tells over;
   }
+
+-- the journal is kept, whether the run goes on or not
+pub kept_unless : {D : Type 0} {state : D → SiteState} {possible : D → ℕ → Held → Type 0} {d : D} {stop : Option Reply} {k : Option TierJournal} {w : World} → KeepsOver state possible d k w → KeepsUnlessBroken state possible d stop k w
+kept_unless {state = state} {possible = possible} {d = d} {k = k} {w = w} over = record { leaves = leaves_at state possible d k w over; over = λ whole. over }
+
+-- what doesn't break may be answered otherwise
+pub kept_unless_told : {D : Type 0} {state : D → SiteState} {possible : D → ℕ → Held → Type 0} {d : D} {stop told : Option Reply} {k : Option TierJournal} {w : World} → (is_broken told ≡ false → is_broken stop ≡ false) → KeepsUnlessBroken state possible d stop k w → KeepsUnlessBroken state possible d told k w
+kept_unless_told so x = record { leaves = x.leaves; over = λ whole. x.over (so whole) }

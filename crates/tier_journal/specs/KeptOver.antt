@@ -43,6 +43,26 @@ abbrev pub is_broken : Option Reply → Bool
 is_broken None = false
 is_broken (Some reply) = tells code.JournalFault reply.last
 
+-- The site tells what it holds; and where a way is asked for, a crash since it began leaves a point of it.
+pub record IsLeftOver {D : Type 0} (state : D → SiteState) (possible : D → ℕ → Held → Type 0) (d : D) (w : World)
+    : Type 0 where
+  pub there : Held
+  pub told : (state d).held ≡ Some there
+  pub leaves : LeavesOnWay state possible d there w w.journal.way
+
+-- so it is where a journal is kept; else the world has none
+abbrev pub LeavesOver : {D : Type 0} → (D → SiteState) → (D → ℕ → Held → Type 0) → D → Option TierJournal → World
+    → Type 0
+LeavesOver state possible d None w = w.journal.kept ≡ false
+LeavesOver state possible d (Some t) w = IsLeftOver state possible d w
+
+-- Behind what may have ended the run: a crash leaves a point of the journal's way, and unless a call of the disk failed
+-- the journal is kept over it.
+pub record KeepsUnlessBroken {D : Type 0} (state : D → SiteState) (possible : D → ℕ → Held → Type 0) (d : D)
+    (stop : Option Reply) (k : Option TierJournal) (w : World) : Type 0 where
+  pub leaves : LeavesOver state possible d k w
+  pub over : is_broken stop ≡ false → KeepsOver state possible d k w
+
 -- the world with another journal, and other counts
 abbrev pub over_disk : Journal → ℕ → ℕ → World → World
 over_disk journal faults moment w = record w { journal = journal; disk_faults = faults; moment = moment }
@@ -53,8 +73,8 @@ pub record TellsSame (held : Option Held) (history : List Entry) : Type 0 where
   pub told : held ≡ Some there
   pub same : there.history ≡ history
 
--- The world's journal is written to by this stage, and nothing else of the world changes. Unless a call of the disk
--- failed, the journal has the entries that the world's has then.
+-- The world's journal is written to by this stage, and nothing else of the world changes. A crash leaves a point of its
+-- way; unless a call of the disk failed, the journal has the entries that the world's has then.
 pub record IsWrittenOver {D : Type 0} (state : D → SiteState) (possible : D → ℕ → Held → Type 0)
     (k : Option TierJournal) (d d' : D) (stop : Option Reply) (stage : Stage) (w : World) : Type 0 where
   pub journal : Journal
@@ -62,7 +82,7 @@ pub record IsWrittenOver {D : Type 0} (state : D → SiteState) (possible : D �
   pub later : (state d).moment ≤ (state d').moment
   pub told : (o : Held) → (state d).held ≡ Some o → TellsSame (state d').held o.history
   pub is : stage w (over_disk journal faults (state d').moment w) stop
-  pub keeps : is_broken stop ≡ false → KeepsOver state possible d' k (over_disk journal faults (state d').moment w)
+  pub keeps : KeepsUnlessBroken state possible d' stop k (over_disk journal faults (state d').moment w)
 
 -- so it is in each world of this moment, whose journal is kept over the disk
 abbrev pub WritesOver : {D : Type 0} → (D → SiteState) → (D → ℕ → Held → Type 0) → Option TierJournal

@@ -7,6 +7,7 @@ use Rattle.group_engine.proofs.DropLocks.{written_stored}
 use Rattle.group_engine.proofs.ReadyLaws.{calm_cause}
 use Rattle.stored_tier.proofs.QuietLaws.{calm_done}
 use Rattle.group_engine.proofs.dropping.settle_for.Goals as goal
+use Rattle.tier_journal.proofs.WayLaws.{kept_unless}
 
 pub returns-then-is_written_at-clause-performs : goal.returns-then-is_written_at-clause-performs
 returns-then-is_written_at-clause-performs g c = λ w at stands unshared keeps. (
@@ -25,7 +26,7 @@ returns-else-is_written_at-clause-performs g c = λ w at stands unshared keeps. 
   at = at;
   is = subst (λ b. MatchBool b (Round w w None) (Passes w w None)) (sym (written_stored c.args.tier.now w.tier c.args.place stands.stored ∙ sym c.is_written_at.ensures ∙ c.if-is_written_at.false)) (refl, refl);
   stands = λ whole. stands;
-  keeps = λ whole. keeps;
+  keeps = kept_unless keeps;
 }
 
 pub returns-else-is_written_at-clause-cause : goal.returns-else-is_written_at-clause-cause

@@ -3,7 +3,7 @@ use Rattle.cache_engine.proofs.RequestLaws.{line_kept}
 use Rattle.reply_lines.proofs.OutputLaws.{splits_none}
 use Rattle.session_cli.proofs.SlotLaws.{in_slots}
 use Rattle.session_cli.proofs.StopLaws.{disk_cause, stop_none}
-use Rattle.session_cli.proofs.WayLaws.{kept_once, stands_begun_at}
+use Rattle.session_cli.proofs.WayLaws.{kept_once, leaves_kept, stands_begun_at}
 use Rattle.session_cli.specs.declared.answering.Stop.TheVariants as stop
 use Rattle.session_cli.proofs.answering.respond.Goals as goal
 
@@ -20,15 +20,15 @@ returns-in-Some-clause-serves g c = record {
         world = it.world;
         at = it.at;
         goes = it.is;
+        leaves = leaves_kept g.P.Disk.state g.P.Disk.possible c.request.new.site c.request.new.engine.journal it.world kept it.keeps.leaves;
         stands = λ whole. record {
           left = it.left whole;
-          keeps = it.keeps whole;
+          keeps = it.keeps.over whole;
           kept = kept;
-          slots = in_slots g.P.Disk.state g.P.Disk.possible c.request.new.site c.request.new.engine.journal it.world kept (it.keeps whole);
+          slots = in_slots g.P.Disk.state g.P.Disk.possible c.request.new.site c.request.new.engine.journal it.world kept (it.keeps.over whole);
         };
       };
   once = λ w x. x;
-  past = λ w x. kept_once g.P.Disk.state g.P.Disk.possible c.args.site.now c.args.engine.now.journal w x.at x.stands.keeps x.stands.kept;
   now = λ w x. kept_once g.P.Disk.state g.P.Disk.possible c.request.new.site c.request.new.engine.journal w x.at x.stands.keeps x.stands.kept;
   begins = λ w x. stands_begun_at g.P.Disk.state g.P.Disk.possible _ _ c.request.new.site c.request.new.engine w x;
   tells = c.pass_on.ensures.tells;
@@ -52,15 +52,15 @@ returns-in-None-clause-serves g c = record {
         world = it.world;
         at = it.at;
         goes = it.is;
+        leaves = leaves_kept g.P.Disk.state g.P.Disk.possible c.request.new.site c.request.new.engine.journal it.world kept it.keeps.leaves;
         stands = λ whole. record {
           left = it.left whole;
-          keeps = it.keeps whole;
+          keeps = it.keeps.over whole;
           kept = kept;
-          slots = in_slots g.P.Disk.state g.P.Disk.possible c.request.new.site c.request.new.engine.journal it.world kept (it.keeps whole);
+          slots = in_slots g.P.Disk.state g.P.Disk.possible c.request.new.site c.request.new.engine.journal it.world kept (it.keeps.over whole);
         };
       };
   once = λ w x. x;
-  past = λ w x. kept_once g.P.Disk.state g.P.Disk.possible c.args.site.now c.args.engine.now.journal w x.at x.stands.keeps x.stands.kept;
   now = λ w x. kept_once g.P.Disk.state g.P.Disk.possible c.request.new.site c.request.new.engine.journal w x.at x.stands.keeps x.stands.kept;
   begins = λ w x. stands_begun_at g.P.Disk.state g.P.Disk.possible _ _ c.request.new.site c.request.new.engine w x;
   tells = refl;

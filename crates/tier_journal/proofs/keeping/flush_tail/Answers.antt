@@ -19,5 +19,5 @@ returns-in-Ok-clause-flushes g c = λ w now over.
 pub returns-in-Err-clause-flushes : goal.returns-in-Err-clause-flushes
 returns-in-Err-clause-flushes g c = λ w now over.
     let it = subst (λ k. KeepsOver g.D.Disk.state g.D.Disk.possible c.args.disk.now k w) c.in-Some.is over in
-    failed_over g.D.Disk.state g.D.Disk.possible g.met.D.Disk.read_possible c.in-Some.journal _ c.args.disk.now c.flush.new.d w [] c.faulty.result now it c.flush.ensures.tells
+    failed_over g.D.Disk.state g.D.Disk.possible g.met.D.Disk.read_possible c.in-Some.journal _ c.args.disk.now c.flush.new.d w [] c.faulty.result now it tt c.flush.ensures.tells
     (c.flush.ensures.crash w.tier.schema it.there w.journal it.certain it.keeps) c.faulty.ensures

@@ -28,5 +28,5 @@ returns-in-Err-Memory-clause-turns g c = λ w now over holds.
 pub returns-in-Err-Disk-clause-turns : goal.returns-in-Err-Disk-clause-turns
 returns-in-Err-Disk-clause-turns g c = λ w now over holds.
     let it = subst (λ k. KeepsOver g.D.Disk.state g.D.Disk.possible c.args.disk.now k w) c.in-Some.is over in
-    broken_over g.D.Disk.state g.D.Disk.possible g.met.D.Disk.read_possible c.in-Some.journal _ c.args.disk.now c.rotate.new.d w c.faulty.result now it c.rotate.ensures.tells
+    broken_over g.D.Disk.state g.D.Disk.possible g.met.D.Disk.read_possible c.in-Some.journal _ c.args.disk.now c.rotate.new.d w c.faulty.result now it holds.tables c.rotate.ensures.tells
     (c.rotate.ensures.crash w.tier.schema it.there w.journal (slot_entries w.tier) it.certain it.keeps holds) c.faulty.ensures

@@ -12,7 +12,7 @@ pub returns-in-Err-clause-serves : goal.returns-in-Err-clause-serves
 returns-in-Err-clause-serves g c = λ o given coming closing.
     finishes_passed g.P.Disk.state g.P.Disk.possible o given (g.K.Sink.written c.args.sink.now) (g.K.Sink.written c.pass_on.new.sink) coming c.args.site.now c.finish.new.site
     c.args.self.now.engine c.finish.new.engine.journal c.args.self.now.output closing c.pass_on.result c.in-Err.reply c.pass_on.new.output
-    (c.in-Err.ensures.finishes closing.world closing.at closing.stands.keeps) c.pass_on.ensures.tells c.pass_on.ensures.bytes
+    (λ w x. c.in-Err.ensures.finishes w x.at x.stands.keeps) c.pass_on.ensures.tells c.pass_on.ensures.bytes
 
 pub returns-in-Err-clause-disk : goal.returns-in-Err-clause-disk
 returns-in-Err-clause-disk g c =
