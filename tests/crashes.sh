@@ -1,11 +1,14 @@
 #!/usr/bin/env bash
-# Writes drills that crash at each moment of a short run, with each of four picks of what is left, into the folder that is
-# named, each with what it gives. That follows from this rule alone:
+# Writes drills that crash at each moment of a short run, with each of four picks of what is left, and drills in which a call of
+# the journal's disk fails, into the folder that is named, each with what it gives. That follows from this rule alone:
 #
 # A moment is a write, cut or sync of the journal's disk, or an entry that comes to the backing database. A new journal takes
 # six moments. A record takes four: its batch is written and synced, then its gate is written and synced. It is there behind
 # a crash from the last of these on; between the last two exactly where what is left of the gate is 01; else it isn't there.
 # An entry is there from its moment on. A line is answered once all its moments have passed.
+#
+# A call of the disk that fails, be it before its effect or behind it, ends the run with the line that it came in, whose reply is
+# `fault 202`. The record is there in the next run exactly where its gate was written.
 set -eu
 cd "$1"
 
@@ -75,6 +78,32 @@ crashes() {
   { printf '! crash %s old\n' $((moment + 1)); input; } >"${name}_past.drill"
   : >"${name}_past.expected"
   echo 99 >"${name}_past.status"
+}
+# A drill for each call that a record takes, of each record of the run, which fails before its effect or behind it; behind it come
+# more runs, as above. A new journal took two writes and four syncs.
+faults() {
+  local name=$1 lines_of=$2 gives=$3 i j line record=0 call plan when file
+  for i in "${!facts[@]}"; do
+    [ "${facts[i]% *}" = record ] || continue
+    record=$((record + 1))
+    for line in "${!ends[@]}"; do [ "${ends[line]}" -lt "${at[i]}" ] || break; done
+    for call in 1 2 3 4; do
+      case $call in
+        1) plan="write $((2 * record + 1))" ;;
+        2) plan="sync $((2 * record + 3))" ;;
+        3) plan="write $((2 * record + 2))" ;;
+        4) plan="sync $((2 * record + 4))" ;;
+      esac
+      for when in before after; do
+        file=${name}_fault_${record}_${call}_$when
+        { printf '! fail %s %s\n' "$plan" "$when"; input; "$lines_of"; } >"$file.drill"
+        there=' '
+        for ((j = 0; j < i; j++)); do there+="${facts[j]#* } "; done
+        case $call$when in 3after | 4*) there+="${facts[i]#* } " ;; esac
+        { printf '%s\n' "${replies[@]:0:line}"; echo 'fault 202'; "$gives"; } >"$file.expected"
+      done
+    done
+  done
 }
 again() { printf '%s\n' '! restart' 's1: OPEN' 's1: SELECT * FROM A'; }
 twice() { again; again; }
@@ -156,6 +185,7 @@ line 's1: COMMIT' 'ok 1' record t1
 line 's1: SELECT * FROM A' $'= 1|10\n= 2|20\n= 3|30\nok 3'
 line 's1: CALL ttDrain' 'ok 1' entry x1
 crashes durable_commit 0 twice gives_commits
+faults durable_commit twice gives_commits
 
 # A commit that isn't durable, and its drain.
 begin 6
@@ -164,6 +194,7 @@ line 's1: INSERT INTO A VALUES (3, 30)' 'ok 1'
 line 's1: COMMIT' 'ok 1'
 line 's1: CALL ttDrain' 'ok 1' record t1 entry x1
 crashes drained_commit 16 twice gives_commits
+faults drained_commit twice gives_commits
 
 # One whose record goes with the next durable one, both of which wait for a drain that isn't asked for.
 begin 6
@@ -179,6 +210,7 @@ gives_both() {
   gives_commits
 }
 crashes commits_of_one_batch 16 twice gives_both
+faults commits_of_one_batch twice gives_both
 
 # One that the end of the input flushes.
 begin 6
@@ -221,6 +253,7 @@ loaded_group SYNCHRONOUS ''
 line 's1: INSERT INTO A VALUES (3, 30)' 'ok 1'
 line 's1: COMMIT' 'ok 1' record t1 entry x1
 crashes synchronous_commit 8 synchronous_lines gives_synchronous
+faults synchronous_commit synchronous_lines gives_synchronous
 
 # ---- definitions, states and flags
 
@@ -255,6 +288,7 @@ line 's1: ALTER CACHE GROUP G SET AUTOREFRESH STATE OFF' 'ok 0' record off
 line 's1: UNLOAD CACHE GROUP G' 'ok 2' record unloaded
 line 's1: DROP CACHE GROUP G' 'ok 0' record dropped
 crashes read_only_group 8 read_only_lines gives_read_only
+faults read_only_group read_only_lines gives_read_only
 
 # ---- crashes of a run that takes up what another one left
 
