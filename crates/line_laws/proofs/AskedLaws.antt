@@ -1,5 +1,5 @@
 -- The question for the schema.
-use Rattle.std.proofs.Common.{◌≡◌, ◌+◌, ◌≤◌, Bool, true, false, Result, Ok, Err, List, refl, sym, subst, arith}
+use Rattle.std.proofs.Common.{Bool, true, false, Result, Ok, Err, List, refl, sym, subst, arith}
 use Rattle.table_defs.specs.declared.definition.TableDef.{TableDef}
 use Rattle.table_state.specs.declared.history.Entry.{Entry}
 use Rattle.outside.specs.Bank.{Grows, TellsSchema}

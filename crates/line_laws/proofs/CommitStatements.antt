@@ -30,7 +30,7 @@ use Rattle.cache_tier.specs.Rounds.{Round}
 use Rattle.cache_tier.specs.StandingBetween.{Stands, own_writes}
 use Rattle.cache_tier.specs.Steps.{tells}
 use Rattle.cache_tier.specs.TierStates.{Session, Tier, others, session_of}
-use Rattle.cache_tier.specs.Worlds.{Follows, IsUnshared, Passes, OnlyWhere, Then, Tries, Unless, World}
+use Rattle.cache_tier.specs.Worlds.{Follows, IsUnshared, OnlyWhere, Then, Tries, Unless, World}
 use Rattle.cache_tier.proofs.DropStatements.{split_of}
 use Rattle.cache_tier.proofs.GroupTables.{in_tree}
 use Rattle.cache_tier.proofs.SessionLists.{none_passes}

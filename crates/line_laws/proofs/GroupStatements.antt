@@ -7,7 +7,7 @@ use Rattle.sql_subset.specs.declared.stmt.RefreshState.{RefreshState}
 use Rattle.sql_subset.specs.declared.stmt.RefreshState.TheVariants.{On, Off, Paused}
 use Rattle.cache_tier.specs.AlterSteps.{Alters, AltersTo, SetsStateAlone, SetsStateRefreshed, altered_entries, joins_something, refreshed_state, same_state, state_answer}
 use Rattle.cache_tier.specs.Conditions.{asks_all}
-use Rattle.cache_tier.specs.Groups.{Group, is_explicit, is_read_only, is_writethrough}
+use Rattle.cache_tier.specs.Groups.{Group}
 use Rattle.cache_tier.specs.JournalSteps.{FlushesSome}
 use Rattle.cache_tier.specs.Reading.{Answers, as_it_was, backing_at}
 use Rattle.cache_tier.specs.Sets.{Choice, RefreshesIfShown, RefreshesSet, alone, changed, has_something, of_set, refreshed, set_size, shows_something}

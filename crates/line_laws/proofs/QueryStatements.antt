@@ -1,5 +1,5 @@
 -- SELECT, and writes in the cache, with the dynamic load before them.
-use Rattle.std.proofs.Common.{◌≡◌, ℕ, suc, ◌+◌, ◌≤◌, Bool, true, false, cond, ◌&&◌, ◌||◌, Option, Some, None, Result, Ok, Err, List, [], ◌∷◌, slice_get, refl, sym, ap, subst, ◌∙◌, arith}
+use Rattle.std.proofs.Common.{◌≡◌, ℕ, suc, ◌+◌, Bool, true, false, cond, ◌&&◌, ◌||◌, Option, Some, None, Result, Ok, Err, List, [], ◌∷◌, slice_get, refl, sym, ap, subst, ◌∙◌, arith}
 use Rattle.std.specs.Bool.{MatchBool}
 use Rattle.row_types.specs.declared.value.Value.{Value}
 use Rattle.row_types.specs.declared.rule.Rule.{Rule}
@@ -23,20 +23,20 @@ use Rattle.cache_tier.specs.OwnWrites.{written}
 use Rattle.cache_tier.specs.Reading.{ReadsFirst, as_it_was, backing_at}
 use Rattle.cache_tier.specs.Rounds.{RoundIfUnsettled}
 use Rattle.cache_tier.specs.Routes.{Cached, PassedOn, Route}
-use Rattle.cache_tier.specs.SelectSteps.{Selects, SelectsBy, SelectsOn, SelectsPassed, SelectsPlaced, SelectsShown, query_answer}
+use Rattle.cache_tier.specs.SelectSteps.{Selects, SelectsBy, SelectsOn, SelectsPlaced, SelectsShown, query_answer}
 use Rattle.cache_tier.specs.Sets.{Choice, alone, at_position, changed, changed_from, loaded_state, of_set, refreshed, set_tried}
 use Rattle.cache_tier.specs.Shown.{over, seen_by}
 use Rattle.cache_tier.specs.StandingBetween.{Stands}
 use Rattle.cache_tier.specs.TierStates.{Session, Tier}
 use Rattle.cache_tier.specs.Wants.{Want}
-use Rattle.cache_tier.specs.Worlds.{Answer, Becomes, IsUnshared, Part, Passes, Quiet, Stage, StageFollows, Then, ThenStage, Tries, Unless, World}
+use Rattle.cache_tier.specs.Worlds.{Answer, Becomes, Quiet, ThenStage, Tries, World}
 use Rattle.cache_tier.specs.WriteSteps.{WritesBy, WritesEffects, WritesOps, WritesShown}
 use Rattle.cache_tier.specs.Journals.{Commits, Defines, Drops, JournalEntry, Marks, Numbers, Prepares, SetsLoaded, SetsState}
 use Rattle.recovery.specs.Journalled.{IsAlike, IsJournalledOn, IsQuiet}
 use Rattle.recovery.proofs.JournalledLaws.{alike_self}
 use Rattle.line_laws.specs.Keeping.{KeepsJournal}
 use Rattle.line_laws.proofs.LoadStatements.{StandsAt, round_if_at}
-use Rattle.line_laws.proofs.PartWords.{Any, Goes, GoesPart, GoesStage, becomes_goes, call_goes, quiet_on, reads_first_goes, reads_goes, refuses_goes, same_goes, same_on, still_quiet, then_goes, then_stage_goes, tries_goes}
+use Rattle.line_laws.proofs.PartWords.{Any, Goes, GoesPart, GoesStage, becomes_goes, call_goes, quiet_on, reads_first_goes, reads_goes, same_goes, same_on, still_quiet, then_goes, then_stage_goes, tries_goes}
 use Rattle.line_laws.proofs.QuietTiers.{alike_changed, quiet_groups, quiet_then, refreshed_quiet, set_tried_groups, set_tried_quiet, use_quiet, writes_quiet}
 use Rattle.line_laws.proofs.TellingLaws.{IsAt, Told, at_of_tier, becomes_told, on_told}
 

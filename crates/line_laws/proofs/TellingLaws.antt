@@ -9,7 +9,7 @@ use Rattle.sql_subset.specs.declared.stmt.RefreshState.{RefreshState}
 use Rattle.sql_subset.specs.declared.stmt.RefreshState.TheVariants.{On, Off, Paused}
 use Rattle.cache_tier.specs.AlterSteps.{altered_entries, same_state, with_state}
 use Rattle.cache_tier.specs.declared.reply.Reply.{Reply}
-use Rattle.cache_tier.specs.Groups.{Group, is_explicit, is_paused, is_read_only, is_writethrough}
+use Rattle.cache_tier.specs.Groups.{Group, is_paused, is_read_only, is_writethrough}
 use Rattle.cache_tier.specs.JournalSteps.{Flushes, FlushesFitting, FlushesSome, journal_full}
 use Rattle.cache_tier.specs.Journals.{Commits, Defines, Drops, Journal, JournalEntry, Marks, Numbers, Prepares, SetsLoaded, SetsState, passed_by}
 use Rattle.cache_tier.specs.JournalWays.{given}
@@ -19,11 +19,11 @@ use Rattle.cache_tier.specs.Steps.{tells}
 use Rattle.cache_tier.specs.Targets.{flag_entries, has_flag, load_entries}
 use Rattle.cache_tier.specs.DynamicLoads.{state_entries}
 use Rattle.cache_tier.specs.TierStates.{Tier, with_group}
-use Rattle.cache_tier.specs.Worlds.{Answer, Becomes, Follows, IsUnshared, OnlyWhere, Passes, StageFollows, Then, ThenStage, World}
+use Rattle.cache_tier.specs.Worlds.{Answer, Becomes, Follows, IsUnshared, OnlyWhere, StageFollows, Then, ThenStage, World}
 use Rattle.recovery.specs.Journalled.{AreAlike, IsAlike, IsJournalled, IsJournalledOn, IsQuiet}
 use Rattle.recovery.specs.Recalling.{with_loaded}
 use Rattle.recovery.proofs.DroppedLaws.{alike_apart}
-use Rattle.recovery.proofs.JournalledLaws.{alike_kind, folded, flushes_kept, loaded_kept, quiet_kept, state_kept, turned, turned_back}
+use Rattle.recovery.proofs.JournalledLaws.{folded, flushes_kept, loaded_kept, state_kept, turned, turned_back}
 use Rattle.recovery.proofs.LiveLaws.{unshared_back}
 use Rattle.recovery.proofs.NewestLaws.{NamesApart}
 use Rattle.recovery.proofs.OthersLaws.{on_then, one_journalled_on}

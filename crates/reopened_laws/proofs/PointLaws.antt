@@ -1,5 +1,5 @@
 -- What a crash has left on the way of a journal may be opened again.
-use Rattle.std.proofs.Common.{◌≡◌, inl, ℕ, zero, suc, ◌≤◌, ◌^◌, true, false, Option, Some, None, List, [], ◌∷◌, ◌++◌, length, map, slice_get, take, drop, refl, sym, ap, subst, ◌∙◌, append_assoc, append-nil, take-append-drop}
+use Rattle.std.proofs.Common.{◌≡◌, inl, ℕ, zero, suc, ◌≤◌, ◌^◌, true, false, Some, List, [], ◌∷◌, ◌++◌, slice_get, take, drop, refl, sym, ap, subst, ◌∙◌, take-append-drop}
 use Rattle.std.specs.List.{AllByRecursion}
 use Rattle.tier_base.specs.declared.number.TableId.{TableId}
 use Rattle.table_defs.specs.declared.definition.TableDef.{TableDef}

@@ -1,5 +1,5 @@
 -- Slots in which a journal is kept say its entries alone.
-use Rattle.std.proofs.Common.{◌≡◌, inl, inr, ℕ, zero, suc, ◌<◌, ◌≤◌, false, Some, None, List, [], ◌∷◌, ◌++◌, length, slice_get, refl, sym, ap, subst, ◌∙◌, arith}
+use Rattle.std.proofs.Common.{◌≡◌, inl, inr, ℕ, zero, suc, ◌<◌, false, Some, None, List, [], ◌∷◌, ◌++◌, length, slice_get, refl, sym, ap, subst, ◌∙◌, arith}
 use Rattle.std.specs.List.{AllByRecursion}
 use Rattle.tier_base.specs.declared.number.TableId.{TableId}
 use Rattle.row_types.specs.declared.value.Value.{Value}
@@ -16,7 +16,7 @@ use Rattle.sql_subset.specs.declared.stmt.RefreshState.TheVariants as refresh
 use Rattle.sql_subset.specs.declared.stmt.Stmt.{Stmt}
 use Rattle.sql_subset.specs.declared.stmt.Stmt.TheVariants as statement
 use Rattle.sql_print.specs.Normal.{normal_group}
-use Rattle.outside.specs.Holding.{Held, Slots, other, slot_of}
+use Rattle.outside.specs.Holding.{Held, Slots, other}
 use Rattle.journal_entries.specs.declared.entry.Entry.{Entry}
 use Rattle.journal_entries.specs.declared.entry.Entry.TheVariants.{Commit, Prepare, Passed, Mark, Defined, Dropped, Turned, Loaded}
 use Rattle.journal_entries.specs.declared.entry.Op as by_name

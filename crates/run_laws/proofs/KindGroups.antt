@@ -29,7 +29,7 @@ use Rattle.run_laws.proofs.DueLaws.{round_ready, round_sits}
 use Rattle.run_laws.proofs.KindParts.{AreSameAt, covered, each_tested, kind_same, last_same, later_same, not_its, reads_not, without_same}
 use Rattle.run_laws.proofs.KindStatements.{kinds_of, kinds_sit, through_all}
 use Rattle.run_laws.proofs.ReadyLaws.{Ready, ReadyOn}
-use Rattle.run_laws.proofs.SitsLaws.{Sits, flushes_sits, flushes_some_sits}
+use Rattle.run_laws.proofs.SitsLaws.{Sits, flushes_some_sits}
 
 each_zip : {X : Type 0} (P Q R : X → Type 0) → ((x : X) → P x → Q x → R x) → (xs : List X) → Each P xs → Each Q xs → Each R xs
 each_zip P Q R so [] p q = tt

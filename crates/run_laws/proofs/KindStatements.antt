@@ -32,7 +32,7 @@ use Rattle.cache_tier.proofs.SessionLists.{among_sessions, changed_session}
 use Rattle.recovery.proofs.JournalledLaws.{alike_commit, alike_self}
 use Rattle.line_laws.proofs.QuietTiers.{writes_quiet}
 use Rattle.run_laws.specs.Lines.{AreOfKinds, IsOfOneKind, are_on_kind}
-use Rattle.run_laws.proofs.KindParts.{all_wait, defs_same, each_all, each_so, kind_same, kinds_by}
+use Rattle.run_laws.proofs.KindParts.{all_wait, defs_same, each_all, kinds_by}
 use Rattle.run_laws.proofs.ReadyLaws.{Ready, each_rested}
 use Rattle.run_laws.proofs.RefusalLaws.{each_found}
 use Rattle.run_laws.proofs.SitsLaws.{Sits, alike_defs, becomes_sits, flushes_sits, records_sits, then_stage_sits}

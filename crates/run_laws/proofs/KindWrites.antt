@@ -25,7 +25,6 @@ use Rattle.cache_tier.specs.OwnWrites.{room_of}
 use Rattle.cache_tier.specs.Routes.{Cached, PassedOn, Route, is_only_read, is_written_through, table_name, visible, write_route}
 use Rattle.cache_tier.specs.Rules.{broken_if, named, plain, rule_in}
 use Rattle.cache_tier.specs.Shown.{all_over, over, seen_by, shown_state}
-use Rattle.cache_tier.specs.StandingBetween.{Stands}
 use Rattle.cache_tier.specs.TierStates.{Session, Tier, level_of, session_of}
 use Rattle.cache_tier.specs.Wants.{wanted_by_write}
 use Rattle.cache_tier.specs.Worlds.{Follows, Then, Tries, Unless, World}

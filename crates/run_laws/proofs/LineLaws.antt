@@ -19,7 +19,7 @@ use Rattle.cache_tier.specs.StandingBetween.{Each, Stands}
 use Rattle.cache_tier.specs.Steps.{Answered, Does, GoesThrough, Heeds, Parts, Saying, Says, Silent, Step, TooDeep, TooLong, WrongAt, added_by, at_moment, early_fault, tells, with_moment}
 use Rattle.cache_tier.specs.TierStates.{ACommit, APassedWrite, Doubt, Doubted, Session, Tier}
 use Rattle.cache_tier.specs.Undone.{is_undone}
-use Rattle.cache_tier.specs.Worlds.{BankCall, Follows, IsUnshared, OnlyWhere, Refuses, Then, Tries, Unless, WantsMemory, World}
+use Rattle.cache_tier.specs.Worlds.{BankCall, Follows, OnlyWhere, Refuses, Then, Tries, Unless, World}
 use Rattle.order_laws.proofs.TruthLaws.{same_some}
 use Rattle.recovery.specs.Journalled.{AreAlike, IsJournalled, IsJournalledOn}
 use Rattle.recovery.proofs.JournalledLaws.{alike_commit, alike_self, quiet_kept}

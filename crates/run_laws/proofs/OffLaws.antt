@@ -1,8 +1,7 @@
 -- Writes on tables of no live writethrough group touch none.
 use Rattle.std.proofs.Common.{◌≡◌, ℕ, zero, suc, ◌+◌, Bool, true, false, not, cond, ◌&&◌, Option, Some, None, List, [], ◌∷◌, ◌++◌, map, slice_get, unwrap_or, refl, sym, ap, ◌∙◌, subst, arith}
-use Rattle.std.specs.Prelude.{Result, Ok, Err, ◌-◌, nat_lt, length, ◌⊎◌}
+use Rattle.std.specs.Prelude.{Result, Ok, Err, ◌-◌, nat_lt, length}
 use Rattle.std.specs.List.{filter, flat_map, list_all}
-use Rattle.std.specs.Option.{option_and_then}
 use Rattle.std.specs.FinMap.{values}
 use Rattle.std.proofs.lemmas.Bool.{eqb-true}
 use Rattle.std.proofs.lemmas.List.Folds.{list_all-append}
