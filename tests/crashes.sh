@@ -314,3 +314,41 @@ for ((m = 0; m <= 5; m++)); do
     } >"$name.expected"
   done
 done
+
+# ---- calls that fail in an opening
+
+# A call of the disk fails in the opening of a new journal: no line of that run is answered, and the next one does them all.
+begin 6
+loaded_group ASYNCHRONOUS ' DURABLE 1'
+line 's1: INSERT INTO A VALUES (3, 30)' 'ok 1'
+line 's1: COMMIT' 'ok 1' record t1
+line 's1: CALL ttDrain' 'ok 1' entry x1
+for plan in 'write 1' 'write 2' 'sync 1' 'sync 2' 'sync 3' 'sync 4'; do
+  for when in before after; do
+    name=new_journal_${plan// /_}_$when
+    { printf '! fail %s %s\n' "$plan" "$when"; input; echo '! restart'; input; } >"$name.drill"
+    { echo 'fault 202'; printf '%s\n' "${replies[@]}"; bank table rows '1:3|30'; } >"$name.expected"
+  done
+done
+
+# Three commits are recorded, and a call fails in the opening that finds them: of the disk, which syncs both slots first, or of
+# the backing database, of which nothing is written. The run behind that has each of them once.
+for plan in 'sync 15' 'sync 16' 'apply_once 1' 'apply_once 2' 'apply_once 3'; do
+  for when in before after; do
+    name=found_journal_${plan// /_}_$when
+    {
+      printf '! fail %s %s\n' "$plan" "$when"
+      printf '%s\n' "backing: CREATE TABLE $table" 's1: OPEN DURABLE 1' \
+        "s1: CREATE ASYNCHRONOUS WRITETHROUGH CACHE GROUP G FROM $table" 's1: LOAD CACHE GROUP G'
+      for ticket in 1 2 3; do printf '%s\n' "s1: INSERT INTO A VALUES ($ticket, 0)" 's1: COMMIT'; done
+      printf '%s\n' '! restart' 's1: OPEN' 's1: CALL ttDrain'
+      twice
+    } >"$name.drill"
+    {
+      printf 'ok %s\n' 0 0 0 0 1 1 1 2 1 3
+      case $plan in sync*) echo 'fault 202' ;; esac
+      for run in 1 2; do printf '%s\n' 'ok 0' '= 1|0' '= 2|0' '= 3|0' 'ok 3'; done
+      bank table '1:1|0' '2:2|0' '3:3|0'
+    } >"$name.expected"
+  done
+done
