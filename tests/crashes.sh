@@ -292,28 +292,35 @@ faults read_only_group read_only_lines gives_read_only
 
 # ---- crashes of a run that takes up what another one left
 
-# Three commits are recorded, and the next run, which brings them to the backing database, crashes at each moment: it syncs both
-# slots, and then an entry comes for each, so that its lines are answered at moment 5, the last one. Each comes once, in its
-# order, and a run behind that finds nothing to do.
-for ((m = 0; m <= 5; m++)); do
-  for pick in "${picks[@]}"; do
-    name=opening_${m}_$pick
-    {
-      printf '%s\n' "backing: CREATE TABLE $table" 's1: OPEN DURABLE 1' \
-        "s1: CREATE ASYNCHRONOUS WRITETHROUGH CACHE GROUP G FROM $table" 's1: LOAD CACHE GROUP G'
-      for ticket in 1 2 3; do printf '%s\n' "s1: INSERT INTO A VALUES ($ticket, 0)" 's1: COMMIT'; done
-      printf '%s\n' '! restart' "! crash $m $pick" 's1: OPEN' 's1: CALL ttDrain'
-      twice
-    } >"$name.drill"
-    {
-      printf 'ok %s\n' 0 0 0 0 1 1 1 2 1 3
-      [ "$m" -lt 5 ] || printf '%s\n' 'ok 0' 'ok 0'
-      echo '<crash>'
-      for run in 1 2; do printf '%s\n' 'ok 0' '= 1|0' '= 2|0' '= 3|0' 'ok 3'; done
-      bank table '1:1|0' '2:2|0' '3:3|0'
-    } >"$name.expected"
+# Three commits are recorded, and the next run, which brings them to the backing database, crashes at each moment up to the one at
+# which its lines are answered. Each commit comes once, in its order, and a run behind that finds nothing to do. Lines behind the
+# second argument stand in front of that run.
+openings() {
+  local name last=$2 m pick run ticket
+  for ((m = 0; m <= last; m++)); do
+    for pick in "${picks[@]}"; do
+      name=$1_${m}_$pick
+      {
+        printf '%s\n' "backing: CREATE TABLE $table" 's1: OPEN DURABLE 1' \
+          "s1: CREATE ASYNCHRONOUS WRITETHROUGH CACHE GROUP G FROM $table" 's1: LOAD CACHE GROUP G'
+        for ticket in 1 2 3; do printf '%s\n' "s1: INSERT INTO A VALUES ($ticket, 0)" 's1: COMMIT'; done
+        printf '%s\n' '! restart' "${@:3}" "! crash $m $pick" 's1: OPEN' 's1: CALL ttDrain'
+        twice
+      } >"$name.drill"
+      {
+        printf 'ok %s\n' 0 0 0 0 1 1 1 2 1 3
+        [ "$m" -lt "$last" ] || printf '%s\n' 'ok 0' 'ok 0'
+        echo '<crash>'
+        for run in 1 2; do printf '%s\n' 'ok 0' '= 1|0' '= 2|0' '= 3|0' 'ok 3'; done
+        bank table '1:1|0' '2:2|0' '3:3|0'
+      } >"$name.expected"
+    done
   done
-done
+}
+# It syncs both slots, and then an entry comes for each commit.
+openings opening 5
+# Of two live slots, where the other one is of an older generation and has no entry, it closes that one by a write and a sync first.
+openings opening_of_two 7 '! slot 1 0102000000000000000000'
 
 # ---- calls that fail in an opening
 

@@ -1,7 +1,7 @@
 #!/usr/bin/env bash
 # real.sh PROGRAM [ROUNDS]: the program over real files. What a run leaves the next one finds: behind its end, behind a
 # change that `sqlite3` made in between, behind an import, behind rotations, and behind a kill in the middle of durable
-# commits, ROUNDS times (10). It prints a line for each of its five parts, and ends with 1 where one isn't as it has to be.
+# commits, ROUNDS times (10). It prints a line for each of its six parts, and ends with 1 where one isn't as it has to be.
 set -u
 . "$(dirname "$0")/common.sh"
 rounds=${2:-10}
@@ -72,6 +72,22 @@ answers $'ok 0\n= 20|60|60\nok 1\nok 1\nok 61' \
   's1: OPEN' 's1: SELECT COUNT(*), MIN(N), MAX(N) FROM A' 's1: INSERT INTO A VALUES (21, 61, NULL)' 's1: COMMIT'
 rm -f ttcache.toml
 printf 'real: a journal that is begun anew stays short, and nothing of it is lost\n'
+
+# A generated script is answered the same, whether its journal is begun anew on the way or not.
+rm -f ttcache.*
+"$program" make 200000 >lines || complain "status $? of make"
+for bytes in 1048576 1073741824; do
+  rm -f ttcache.db* ttcache.j?
+  printf 'rotate_bytes = %s\n' "$bytes" >ttcache.toml
+  "$program" run <lines >"replies_$bytes" || complain "status $? of a generated script"
+  # (the last byte of the generation of slot 1, which has none at first)
+  begun[bytes]=$(od -An -tu1 -j9 -N1 ttcache.j1 2>/dev/null | tr -d ' ')
+done
+cmp -s replies_1048576 replies_1073741824 || complain 'a journal that is begun anew changes a reply'
+[ "${begun[1048576]:-0}" -ge 2 ] || complain 'the journal of a generated script is never begun anew'
+[ "${begun[1073741824]:-0}" = 0 ] || complain 'a short journal is begun anew'
+rm -f ttcache.toml
+printf 'real: a generated script is answered the same, whether its journal is begun anew or not\n'
 
 # A run of durable commits is killed in the middle: each that was answered is there, in order, and none twice.
 rm -f ttcache.*

@@ -1,5 +1,5 @@
 -- Stored rows of which some left, and to which others came, stand under their keys and fit their tables.
-use Rattle.std.proofs.Common.{◌≡◌, ◌⊎◌, ◌+◌, ℕ, zero, suc, true, Option, Some, None, List, [], ◌∷◌, inl, inr, length, slice_get, unwrap_or, arith, refl, sym, ap, subst, ◌∙◌}
+use Rattle.std.proofs.Common.{◌≡◌, ◌⊎◌, ◌+◌, ℕ, zero, suc, true, Option, Some, None, List, [], ◌∷◌, inl, inr, slice_get, unwrap_or, arith, refl, sym, ap, subst, ◌∙◌}
 use Rattle.std.specs.Option.{option_map, option_or}
 use Rattle.std.specs.FinMap as fm
 use Rattle.tier_base.specs.declared.number.TableId.{TableId}
@@ -14,10 +14,8 @@ use Rattle.order_laws.proofs.TruthLaws.{same_some}
 use Rattle.group_catalog.specs.Catalogs.{groups_in}
 use Rattle.group_store.specs.Shown.{kept_rows, stored_rows, tables_by}
 use Rattle.group_store.specs.Stores.{Kept, key_columns, place_in}
-use Rattle.stored_tier.specs.declared.tier.Tier.{Tier as Stored}
-use Rattle.stored_tier.specs.Stored.{IsSound, IsVerified}
 use Rattle.stored_tier.proofs.VerifyLaws.{key_is, verified_by}
-use Rattle.aging_cycles.specs.Coming.{HasRowsOf, HaveRowsOf, StayKeyed, StayVerified, StoresRowsOf}
+use Rattle.aging_cycles.specs.Coming.{HasRowsOf, HaveRowsOf, StayKeyed, StayVerified}
 use Rattle.aging_cycles.proofs.RowsOf.{placed_alike}
 
 abbrev Row : Type 0

@@ -1,5 +1,5 @@
 -- What is stored behind cycles was stored before.
-use Rattle.std.proofs.Common.{◌≡◌, ℕ, true, Some, List, [], ◌∷◌, length, slice_get, sym, subst, ◌∙◌}
+use Rattle.std.proofs.Common.{◌≡◌, ℕ, Some, List, [], ◌∷◌, length, slice_get, sym, subst, ◌∙◌}
 use Rattle.row_types.specs.declared.value.Value.{Value}
 use Rattle.table_defs.specs.declared.definition.TableDef.{TableDef}
 use Rattle.order_laws.proofs.TruthLaws.{same_some}

@@ -17,7 +17,7 @@ use Rattle.instances.proofs.Gathering.{entry_found, get_where}
 use Rattle.cache_store.specs.Shown.{shown_of}
 use Rattle.group_store.specs.Keeping.{KeepsOthers, KeepsShown}
 use Rattle.group_store.specs.Stores.{Kept, cut_store}
-use Rattle.group_store.specs.Trees.{Layer, cut_from, keep}
+use Rattle.group_store.specs.Trees.{keep}
 use Rattle.cache_tier.specs.Groups.{is_key}
 use Rattle.cache_tier.proofs.KeyListLaws.{key_in_map}
 use Rattle.cache_tier.proofs.ShownTrees.{front_kept}

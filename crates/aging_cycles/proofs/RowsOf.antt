@@ -1,5 +1,5 @@
 -- Stores whose rows are those of others, or came.
-use Rattle.std.proofs.Common.{◌≡◌, ◌≢◌, ◌⊎◌, ◌+◌, ℕ, zero, suc, Bool, true, false, cond, not, nat_eq, Option, Some, None, List, [], ◌∷◌, inl, inr, length, map, position, set, slice_get, arith, refl, sym, ap, subst, ◌∙◌}
+use Rattle.std.proofs.Common.{◌≡◌, ◌≢◌, ◌⊎◌, ℕ, zero, suc, Bool, true, false, cond, not, nat_eq, Option, Some, None, List, [], ◌∷◌, inl, inr, length, map, position, set, slice_get, arith, refl, sym, ap, subst, ◌∙◌}
 use Rattle.std.proofs.lemmas.Bool.Decides.{eqb_tells}
 use Rattle.std.specs.Option.{option_map}
 use Rattle.std.specs.FinMap as fm

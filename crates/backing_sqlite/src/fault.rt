@@ -4,7 +4,7 @@ use sqlite::{Error, ErrorCode};
 use std::alloc::{AllocError, AllocFailed};
 
 /// Why a call of the store gave no answer.
-#[derive(Clone, Copy, Debug, PartialEq, Eq)]
+#[derive(Clone, Copy)]
 pub(crate) enum StoreFault {
     /// It failed, or what stands in it can't be read.
     Failed,
@@ -26,11 +26,17 @@ impl<T: Drop> From<AllocFailed<T>> for StoreFault {
 
 impl From<Error> for StoreFault {
     fn from(error: Error) -> StoreFault {
-        match error {
-            Error::SqliteFailure(ErrorCode::OutOfMemory) => StoreFault::Memory,
-            _ => StoreFault::Failed,
+        if is_memory(error) {
+            StoreFault::Memory
+        } else {
+            StoreFault::Failed
         }
     }
+}
+
+// Whether memory was wanting. A comparison is one call, and a pattern has each form of an error written out.
+fn is_memory(error: Error) -> bool {
+    error == Error::SqliteFailure(ErrorCode::OutOfMemory)
 }
 
 /// Why a file wasn't opened.
@@ -49,9 +55,10 @@ pub enum OpenError {
 
 impl From<Error> for OpenError {
     fn from(error: Error) -> OpenError {
-        match error {
-            Error::SqliteFailure(ErrorCode::OutOfMemory) => OpenError::Memory,
-            error => OpenError::Store(error),
+        if is_memory(error) {
+            OpenError::Memory
+        } else {
+            OpenError::Store(error)
         }
     }
 }

@@ -3,6 +3,7 @@
 use crate::fault::{OpenError, StoreFault};
 use sqlite::types::ValueRef;
 use sqlite::{Alter, Connection, Error, File, FileStore, Transaction};
+use sqlite_disk::Disk;
 
 /// A transaction of the store. It says nothing of what the store has: what is written over it needs none of the words
 /// of `sqlite` on that.
@@ -46,7 +47,8 @@ pub(crate) trait TakesRows {
         ensures { keeps self.new };
 }
 
-impl Store for Transaction<'_, FileStore<File>> {
+// At any store, as are the functions below: one that calls `sqlite` at the type of a file is dear to prove.
+impl<S: Alter> Store for Transaction<'_, S> {
     fn change(&mut self, sql: &str, values: &[ValueRef<'_>]) -> Result<usize, StoreFault> {
         match self.execute(sql, values) {
             Ok(changed) => Ok(changed),
@@ -61,8 +63,7 @@ impl Store for Transaction<'_, FileStore<File>> {
     ) -> Result<Option<sqlite::Row>, StoreFault> {
         match self.query_row(sql, values) {
             Ok(row) => Ok(Some(row)),
-            Err(Error::QueryReturnedNoRows) => Ok(None),
-            Err(error) => Err(StoreFault::from(error)),
+            Err(error) => no_row(error),
         }
     }
 
@@ -87,6 +88,15 @@ impl Store for Transaction<'_, FileStore<File>> {
     }
 }
 
+// What an error says of the first row: where it is that there is none, that.
+fn no_row(error: Error) -> Result<Option<sqlite::Row>, StoreFault> {
+    if error == Error::QueryReturnedNoRows {
+        Ok(None)
+    } else {
+        Err(StoreFault::from(error))
+    }
+}
+
 fn hand_over<S: Alter, T: TakesRows>(
     tx: &mut Transaction<'_, S>,
     sql: &str,
@@ -107,8 +117,7 @@ fn hand_over<S: Alter, T: TakesRows>(
     Ok(())
 }
 
-/// The store in a file. All calls of `sqlite` stand here, since each function that calls it at the type of a file is
-/// dear to prove.
+/// The store in a file. All calls of `sqlite` stand here.
 pub(crate) struct Base {
     conn: Connection<FileStore<File>>,
 }
@@ -131,24 +140,32 @@ impl Base {
     /// Closes the file.
     pub(crate) fn close(self) -> Result<(), StoreFault> {
         let Self { conn } = self;
-        match conn.close() {
-            Ok(()) => Ok(()),
-            Err(error) => Err(StoreFault::from(error)),
-        }
+        close(conn)
     }
 
     /// Begins a transaction. It fails where one is open.
     pub(crate) fn begin(&mut self) -> Result<Transaction<'_, FileStore<File>>, StoreFault> {
-        if self.conn.is_autocommit() {
-            Ok(self.conn.transaction())
-        } else {
-            Err(StoreFault::Failed)
-        }
+        begin(&mut self.conn)
+    }
+}
+
+fn close<D: Disk + Drop>(conn: Connection<FileStore<D>>) -> Result<(), StoreFault> {
+    match conn.close() {
+        Ok(()) => Ok(()),
+        Err(error) => Err(StoreFault::from(error)),
+    }
+}
+
+fn begin<S: Alter>(conn: &mut Connection<S>) -> Result<Transaction<'_, S>, StoreFault> {
+    if conn.is_autocommit() {
+        Ok(conn.transaction())
+    } else {
+        Err(StoreFault::Failed)
     }
 }
 
 /// Ends a transaction of the store, with what was done in it or without.
-pub(crate) fn end(tx: Transaction<'_, FileStore<File>>, is_done: bool) -> Result<(), StoreFault> {
+pub(crate) fn end<S: Alter>(tx: Transaction<'_, S>, is_done: bool) -> Result<(), StoreFault> {
     if !is_done {
         return Ok(());
     }
@@ -159,6 +176,6 @@ pub(crate) fn end(tx: Transaction<'_, FileStore<File>>, is_done: bool) -> Result
 }
 
 /// Ends a transaction of the store in which nothing was done.
-pub(crate) fn end_reading(tx: Transaction<'_, FileStore<File>>) {
+pub(crate) fn end_reading<S: Alter>(tx: Transaction<'_, S>) {
     let _ = end(tx, false);
 }

@@ -1,5 +1,5 @@
 -- What is due, by the stored clock.
-use Rattle.std.proofs.Common.{◌≡◌, inl, inr, ℕ, ◌+◌, max, true, false, cond, ◌&&◌, filter, Option, Some, None, List, [], ◌∷◌, ◌++◌, map, refl, sym, ap, subst, ◌∙◌}
+use Rattle.std.proofs.Common.{◌≡◌, ℕ, ◌+◌, max, true, false, cond, ◌&&◌, filter, Option, Some, None, List, [], ◌∷◌, ◌++◌, map, refl, sym, ap, subst, ◌∙◌}
 use Rattle.std.proofs.lemmas.List.{append-nil}
 use Rattle.tier_base.specs.declared.code.Code.TheVariants as code
 use Rattle.std.specs.Prelude.{Err}
@@ -16,7 +16,7 @@ use Rattle.cache_tier.specs.Groups.{Group, definitions_of, is_on, is_read_only}
 use Rattle.cache_tier.specs.Rounds.{Round}
 use Rattle.cache_tier.specs.Steps.{added_by, at_moment, with_moment}
 use Rattle.cache_tier.specs.TierStates.{Session, Tier, cut}
-use Rattle.cache_tier.specs.Worlds.{OnlyWhere, Passes, World, faulty}
+use Rattle.cache_tier.specs.Worlds.{OnlyWhere, Passes, World}
 use Rattle.cache_tier.specs.declared.reply.Note.{Note}
 use Rattle.cache_tier.specs.declared.reply.Reply.{Reply}
 use Rattle.group_catalog.specs.Catalogs.{groups_in}
@@ -31,11 +31,11 @@ use Rattle.tier_journal.proofs.WayLaws.{kept_unless}
 use Rattle.stored_tier.specs.Performing.{IsStopCausedOver, PerformsOver, StandsFor}
 use Rattle.stored_tier.specs.Refreshing.{has_moment, moment_in}
 use Rattle.outside.specs.Sites.{SiteState}
-use Rattle.stored_tier.specs.Stored.{IsSound, IsStoredAs, KeepsTime, without_list}
-use Rattle.cache_engine.proofs.DueItemLaws.{as_item, idle_caused, idle_item, noted_item, since_self, stopped_item, then_items, wanting_caused}
+use Rattle.stored_tier.specs.Stored.{IsStoredAs, KeepsTime, without_list}
+use Rattle.cache_engine.proofs.DueItemLaws.{as_item, idle_caused, idle_item, noted_item, since_self, stopped_item, then_items}
 use Rattle.stored_tier.proofs.OverLaws.{keeps_tier}
-use Rattle.stored_tier.proofs.QuietLaws.{at_still, stands_over}
-use Rattle.group_engine.proofs.RefreshedSets.{stands_clocked, stored_clocked}
+use Rattle.stored_tier.proofs.QuietLaws.{at_still}
+use Rattle.dynamic_loads.specs.OfGroupEngine.RefreshedSets.{stands_clocked, stored_clocked}
 use Rattle.session_engine.specs.Doubting.{CommitIsInDoubt, IsInDoubt, IsLeft, LeadsOver, WriteIsInDoubt}
 use Rattle.session_engine.specs.declared.doubt.Doubt.{Doubt}
 use Rattle.session_engine.specs.declared.doubt.Doubted.{Doubted}

@@ -21,7 +21,6 @@ use Rattle.outside.specs.declared.site.Done.{Done as Wrote}
 use Rattle.csv_import.specs.Inserts.{GivesAll, inserts_of, records_in}
 use Rattle.cache_tier.specs.Groups.{is_table_of, is_writethrough}
 use Rattle.cache_tier.specs.PassedSteps.{passed_reply}
-use Rattle.cache_tier.specs.Routes.{is_written_through}
 use Rattle.cache_tier.specs.Rules.{named}
 use Rattle.cache_tier.specs.TierStates.{Tier}
 use Rattle.cache_tier.specs.Worlds.{Tries, World, only}
@@ -33,7 +32,7 @@ use Rattle.stored_tier.specs.declared.tier.Tier.{Tier as Stored}
 use Rattle.stored_tier.specs.Sites.{Serves}
 use Rattle.stored_tier.specs.Stored.{IsStoredAs}
 use Rattle.stored_tier.proofs.BankLaws.{behind, behind_at, call_behind, stays_at, told_behind}
-use Rattle.cache_engine.specs.Importing.{Asked, FindsInserts, Imports, ImportsAll, ImportsRead, asked_at, inserts_behind, inserts_for, inserts_into, table_asked, unknown_rule}
+use Rattle.cache_engine.specs.Importing.{FindsInserts, Imports, ImportsAll, ImportsRead, asked_at, inserts_behind, inserts_for, inserts_into, table_asked, unknown_rule}
 use Rattle.cache_engine.proofs.WritingLaws.{written_seen}
 
 -- THE INSERTS

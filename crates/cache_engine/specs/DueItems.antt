@@ -8,7 +8,6 @@ use Rattle.tier_base.specs.declared.code.Code.TheVariants as code
 use Rattle.cache_tier.specs.Aging.{is_over}
 use Rattle.cache_tier.specs.DueWork.{DueAging, DueRound, DueSets, Item, ThenItem, intervals}
 use Rattle.cache_tier.specs.Groups.{Group, definitions_of}
-use Rattle.cache_tier.specs.Worlds.{faulty}
 use Rattle.cache_tier.specs.declared.reply.Note.{Note}
 use Rattle.cache_tier.specs.declared.reply.Note.TheVariants.{Propagate, Refresh}
 use Rattle.cache_tier.specs.declared.reply.Reply.{Reply}
@@ -17,7 +16,7 @@ use Rattle.stored_tier.specs.declared.moments.SetMoment.{SetMoment}
 use Rattle.cache_engine.specs.declared.due.Due.{Due}
 use Rattle.stored_tier.specs.declared.tier.Tier.{Tier as Stored}
 use Rattle.cache_engine.specs.Due.{IsDueCaused}
-use Rattle.aging_cycles.specs.Ages.{Ages}
+use Rattle.dynamic_loads.specs.OfAgingCycles.Ages.{Ages}
 use Rattle.stored_tier.specs.Performing.{PerformsOver}
 use Rattle.stored_tier.specs.Refreshing.{has_moment, moment_in}
 use Rattle.outside.specs.Holding.{Held}

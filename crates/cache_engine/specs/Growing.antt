@@ -1,7 +1,7 @@
 -- A schema that the stored tier learns, and whether it has to ask for one. (This project's rule: a definition never
 -- leaves, and a new table stands behind the others.)
 
-use Rattle.std.specs.Prelude.{◌≡◌, ℕ, List, ◌++◌, Option, Some, None, Bool, true, false, not, ◌&&◌, length}
+use Rattle.std.specs.Prelude.{◌≡◌, ℕ, List, Option, Some, None, Bool, true, false, not, ◌&&◌, length}
 use Rattle.std.specs.List.{list_any}
 use Rattle.tier_base.specs.declared.number.TableId.{TableId}
 use Rattle.table_defs.specs.Names.{place_of_table}

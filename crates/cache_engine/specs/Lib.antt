@@ -10,3 +10,4 @@ pub mod Requests
 pub mod Serving
 pub mod Tabling
 pub mod Writing
+pub mod OfTierOpening

@@ -16,9 +16,8 @@ ghost use Rattle.session_engine.specs.Settling.{told_of};
 ghost use Rattle.propagators.specs.Certainty.{KeepsCertain};
 ghost use Rattle.tier_journal.specs.declared.journal.TierJournal.{TierJournal as Kept};
 
-use aging_cycles::age;
 use cache_tier::reply::{Last, Note, Reply};
-use group_engine::fresh::refresh_members;
+use dynamic_loads::{age, refresh_members};
 use outside::Site;
 use session_engine::doubt::Doubt;
 use session_engine::settling::settle_doubt;

@@ -1,8 +1,9 @@
 //! How an engine is opened with its journal.
 
-ghost use Rattle.std.specs.Prelude.{◌≡◌, IfOk, None, true};
+ghost use Rattle.std.specs.Prelude.{◌≡◌, IfErr, IfOk, None, true};
 ghost use Rattle.cache_engine.specs.Engines.{IsInOrder};
 ghost use Rattle.cache_engine.specs.Opening.{OpensOver, has_journal};
+ghost use Rattle.tier_opening.specs.Leaving.{FailsLeaving};
 ghost use Rattle.tier_opening.specs.Telling.{OpenIsCaused};
 
 use crate::engine::Engine;
@@ -28,6 +29,7 @@ pub fn open<P: Site>(
     ensures doubt { IfOk result (λ engine. engine.doubt ≡ None) }
     ensures order { IfOk result IsInOrder }
     ensures journal { IfOk result (λ engine. has_journal engine.journal ≡ true) }
+    ensures fails { IfErr result (λ error. FailsLeaving P.Disk.state P.Disk.possible start.0 pace site.old site.new) }
     ensures cause { OpenIsCaused start.0 pace (P.Disk.state site.old) (P.Disk.state site.new) result }
 {
     match open_tier(alloc, site, start, pace) {

@@ -21,11 +21,9 @@ use crate::serving::serve_console;
 use cache_tier::reply::Reply;
 use dynamic_loads::querying::run_query;
 use dynamic_loads::writing::run_write;
-use group_engine::altering::alter_group;
-use group_engine::defining::create_group;
-use group_engine::dropping::drop_group;
-use group_engine::loading::{load_group, refresh_group};
-use group_engine::unloading::unload_group;
+use dynamic_loads::{
+    alter_group, create_group, drop_group, load_group, refresh_group, unload_group,
+};
 use outside::Site;
 use row_types::Refused;
 use session_engine::at_once::commit_transaction;

@@ -2,11 +2,11 @@
 use Rattle.std.proofs.Common.{◌≡◌, ℕ, suc, ◌<◌, ◌≤◌, Bool, Some, List, [], ◌∷◌, ◌++◌, length, drop, slice_get, inl, inr, refl, sym, ap, subst, ◌∙◌, arith}
 use Rattle.std.proofs.lemmas.Bool.{cases_lt}
 use Rattle.std.specs.FinMap.{get}
-use Rattle.row_types.specs.declared.value.Value.{Value}
-use Rattle.table_defs.specs.declared.definition.TableDef.{TableDef}
-use Rattle.table_defs.specs.Declarations.{foreign_places}
-use Rattle.indexed_rows.specs.Rows.{Table, key_of}
-use Rattle.table_state.specs.Tables.{TableState, table_at}
+use Rattle.instances.specs.row_types.specs.declared.value.Value.{Value}
+use Rattle.instances.specs.table_defs.specs.declared.definition.TableDef.{TableDef}
+use Rattle.instances.specs.table_defs.specs.Declarations.{foreign_places}
+use Rattle.instances.specs.indexed_rows.specs.Rows.{Table, key_of}
+use Rattle.instances.specs.table_state.specs.Tables.{TableState, table_at}
 use Rattle.instances.specs.declared.tree.Child.{Child}
 use Rattle.instances.specs.declared.tree.Tree.{Tree}
 use Rattle.instances.specs.Instances.{IsIn}

@@ -1,10 +1,10 @@
 -- The view of a tree without WHERE.
 use Rattle.std.proofs.Common.{◌≡◌, Bool, true, ◌&&◌, cond, Option, Some, None, List, [], ◌∷◌, ◌++◌, map, slice_get, refl, sym, ap, ◌∙◌, append_assoc, append-nil}
 use Rattle.std.specs.FinMap.{get, same_map}
-use Rattle.row_types.specs.declared.value.Value.{Value}
-use Rattle.row_types.proofs.OrderLaws.{key_total, key_exact}
-use Rattle.indexed_rows.specs.Rows.{Table}
-use Rattle.table_state.specs.Tables.{TableState, table_at}
+use Rattle.instances.specs.row_types.specs.declared.value.Value.{Value}
+use Rattle.instances.specs.row_types.proofs.OrderLaws.{key_total, key_exact}
+use Rattle.instances.specs.indexed_rows.specs.Rows.{Table}
+use Rattle.instances.specs.table_state.specs.Tables.{TableState, table_at}
 use Rattle.instances.specs.declared.tree.Child.{Child}
 use Rattle.instances.specs.declared.tree.Tree.{Tree}
 use Rattle.instances.specs.Views.{child_rows, is_kept, kept_at, passes, refers_to_one, root_rows, rows_where, selects, with_children}

@@ -6,15 +6,15 @@ use Rattle.std.specs.Ordering.{is_eq}
 use Rattle.std.specs.declared.cmp.Ordering.{Ordering}
 use Rattle.std.specs.declared.cmp.Ordering.TheVariants.{Less, Equal, Greater}
 use Rattle.std.specs.FinMap.{contains_key, empty, get, get-insert, insert}
-use Rattle.row_types.specs.declared.value.Value.{Value}
-use Rattle.row_types.specs.Order.{key_order}
-use Rattle.row_types.proofs.OrderLaws.{key_exact, key_total}
-use Rattle.tier_base.specs.declared.number.TableId.{TableId}
-use Rattle.table_defs.specs.declared.definition.TableDef.{TableDef}
-use Rattle.indexed_rows.specs.Rows.{Table, is_same, key_of, put_in}
-use Rattle.table_state.specs.Tables.{TableState, fits_columns, has_parent, table_at}
-use Rattle.table_state.specs.declared.operation.Op.TheVariants.{Insert}
-use Rattle.table_state.specs.Operations.{applied, only_if, with_row}
+use Rattle.instances.specs.row_types.specs.declared.value.Value.{Value}
+use Rattle.instances.specs.row_types.specs.Order.{key_order}
+use Rattle.instances.specs.row_types.proofs.OrderLaws.{key_exact, key_total}
+use Rattle.instances.specs.tier_base.specs.declared.number.TableId.{TableId}
+use Rattle.instances.specs.table_defs.specs.declared.definition.TableDef.{TableDef}
+use Rattle.instances.specs.indexed_rows.specs.Rows.{Table, is_same, key_of, put_in}
+use Rattle.instances.specs.table_state.specs.Tables.{TableState, fits_columns, has_parent, table_at}
+use Rattle.instances.specs.table_state.specs.declared.operation.Op.TheVariants.{Insert}
+use Rattle.instances.specs.table_state.specs.Operations.{applied, only_if, with_row}
 use Rattle.instances.specs.declared.tree.Child.{Child}
 use Rattle.instances.specs.declared.tree.Tree.{Tree}
 use Rattle.instances.specs.Trees.{table_of}

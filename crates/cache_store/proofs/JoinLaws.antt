@@ -5,11 +5,11 @@ use Rattle.std.specs.Ordering.{is_eq}
 use Rattle.std.specs.declared.cmp.Ordering.{Ordering}
 use Rattle.std.specs.declared.cmp.Ordering.TheVariants.{Less, Equal, Greater}
 use Rattle.std.specs.FinMap.{contains_key, empty, entries, find, get, get-empty, get-entries, get-insert, get-retain_keys, insert, same_map}
-use Rattle.row_types.specs.declared.value.Value.{Value}
-use Rattle.row_types.specs.Order.{key_order}
-use Rattle.row_types.proofs.OrderLaws.{key_total, key_exact}
-use Rattle.indexed_rows.specs.Rows.{Table, is_same, put_in}
-use Rattle.table_state.specs.Tables.{TableState}
+use Rattle.instances.specs.row_types.specs.declared.value.Value.{Value}
+use Rattle.instances.specs.row_types.specs.Order.{key_order}
+use Rattle.instances.specs.row_types.proofs.OrderLaws.{key_total, key_exact}
+use Rattle.instances.specs.indexed_rows.specs.Rows.{Table, is_same, put_in}
+use Rattle.instances.specs.table_state.specs.Tables.{TableState}
 use Rattle.instances.specs.declared.tree.Tree.{Tree}
 use Rattle.instances.specs.Roots.{root_at}
 use Rattle.instances.specs.Views.{instance_of, kept_at, view_of}

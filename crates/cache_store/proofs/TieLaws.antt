@@ -1,7 +1,7 @@
 -- Recency over slots is recency over their keys.
 use Rattle.std.proofs.Common.{◌≡◌, ℕ, suc, Bool, true, false, not, cond, List, [], ◌∷◌, ◌++◌, Some, map, filter, nat_eq, slice_get, refl, sym, ap, ◌∙◌}
-use Rattle.row_types.specs.declared.value.Value.{Value}
-use Rattle.indexed_rows.specs.Rows.{is_same}
+use Rattle.instances.specs.row_types.specs.declared.value.Value.{Value}
+use Rattle.instances.specs.indexed_rows.specs.Rows.{is_same}
 use Rattle.recency.specs.Rings.{keys_without}
 use Rattle.cache_store.specs.Tying.{TiesKeys}
 

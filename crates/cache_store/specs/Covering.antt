@@ -1,9 +1,9 @@
 -- A tree without WHERE covers its tables whole. (TimesTen SQL Reference, CREATE TABLE: a foreign key names a row.)
 use Rattle.std.specs.Prelude.{◌≡◌, List, [], ◌∷◌, ◌++◌, Some, None, true, map, slice_get}
 use Rattle.std.specs.FinMap.{get}
-use Rattle.row_types.specs.declared.value.Value.{Value}
-use Rattle.indexed_rows.specs.Rows.{Table}
-use Rattle.table_state.specs.Tables.{TableState, table_at}
+use Rattle.instances.specs.row_types.specs.declared.value.Value.{Value}
+use Rattle.instances.specs.indexed_rows.specs.Rows.{Table}
+use Rattle.instances.specs.table_state.specs.Tables.{TableState, table_at}
 use Rattle.instances.specs.declared.tree.Child.{Child}
 use Rattle.instances.specs.declared.tree.Tree.{Tree}
 use Rattle.instances.specs.Views.{kept_at, refers_to_one, view_of}

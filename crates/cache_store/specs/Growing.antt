@@ -1,10 +1,10 @@
 -- What one operation makes of what is shown.
 use Rattle.std.specs.Prelude.{◌≡◌, ◌≤◌, ℕ, suc, List, Some, Bool, true, false, ◌&&◌, nat_eq, slice_get, if◌then◌else◌}
 use Rattle.std.specs.FinMap.{contains_key, get}
-use Rattle.row_types.specs.declared.value.Value.{Value}
-use Rattle.tier_base.specs.declared.number.TableId.{TableId}
-use Rattle.indexed_rows.specs.Rows.{is_same}
-use Rattle.table_state.specs.Tables.{TableState, table_at}
+use Rattle.instances.specs.row_types.specs.declared.value.Value.{Value}
+use Rattle.instances.specs.tier_base.specs.declared.number.TableId.{TableId}
+use Rattle.instances.specs.indexed_rows.specs.Rows.{is_same}
+use Rattle.instances.specs.table_state.specs.Tables.{TableState, table_at}
 use Rattle.instances.specs.declared.tree.Child.{Child}
 use Rattle.instances.specs.declared.tree.Tree.{Tree}
 use Rattle.instances.specs.Roots.{root_at}

@@ -4,3 +4,7 @@ pub mod Growing
 pub mod Operating
 pub mod Owning
 pub mod Tying
+pub use Rattle.recency
+pub use Rattle.instances.specs.table_defs
+pub use Rattle.instances.specs.table_state
+pub use Rattle.instances

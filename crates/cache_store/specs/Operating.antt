@@ -1,14 +1,14 @@
 -- An insert, and what it makes of what is shown.
 use Rattle.std.specs.Prelude.{◌≡◌, ◌≤◌, ℕ, zero, suc, List, [], ◌∷◌, Some, Bool, true, slice_get}
 use Rattle.std.specs.FinMap.{remove}
-use Rattle.row_types.specs.declared.value.Value.{Value}
-use Rattle.tier_base.specs.declared.number.TableId.{TableId}
-use Rattle.table_defs.specs.declared.definition.TableDef.{TableDef}
-use Rattle.indexed_rows.specs.Rows.{Table, key_of, put_in, put_over}
-use Rattle.table_state.specs.Tables.{TableState}
-use Rattle.table_state.specs.declared.operation.Op.{Op}
-use Rattle.table_state.specs.declared.operation.Op.TheVariants.{Delete, Insert, Update}
-use Rattle.table_state.specs.Operations.{applied}
+use Rattle.instances.specs.row_types.specs.declared.value.Value.{Value}
+use Rattle.instances.specs.tier_base.specs.declared.number.TableId.{TableId}
+use Rattle.instances.specs.table_defs.specs.declared.definition.TableDef.{TableDef}
+use Rattle.instances.specs.indexed_rows.specs.Rows.{Table, key_of, put_in, put_over}
+use Rattle.instances.specs.table_state.specs.Tables.{TableState}
+use Rattle.instances.specs.table_state.specs.declared.operation.Op.{Op}
+use Rattle.instances.specs.table_state.specs.declared.operation.Op.TheVariants.{Delete, Insert, Update}
+use Rattle.instances.specs.table_state.specs.Operations.{applied}
 use Rattle.instances.specs.declared.tree.Child.{Child}
 use Rattle.instances.specs.declared.tree.Tree.{Tree}
 use Rattle.instances.specs.Trees.{table_of}

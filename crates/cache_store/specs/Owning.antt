@@ -1,9 +1,9 @@
 -- A store's own tables as a state.
 use Rattle.std.specs.Prelude.{◌≡◌, ℕ, List, Some, None, Bool, ◌&&◌, not, map}
-use Rattle.row_types.specs.declared.value.Value.{Value}
-use Rattle.tier_base.specs.declared.number.TableId.{TableId}
-use Rattle.indexed_rows.specs.Rows.{Table, is_same}
-use Rattle.table_state.specs.Tables.{TableState, table_at}
+use Rattle.instances.specs.row_types.specs.declared.value.Value.{Value}
+use Rattle.instances.specs.tier_base.specs.declared.number.TableId.{TableId}
+use Rattle.instances.specs.indexed_rows.specs.Rows.{Table, is_same}
+use Rattle.instances.specs.table_state.specs.Tables.{TableState, table_at}
 use Rattle.instances.specs.declared.tree.Child.{Child}
 use Rattle.instances.specs.declared.tree.Tree.{Tree}
 use Rattle.instances.specs.Trees.{table_of}

@@ -3,9 +3,9 @@
 use Rattle.std.specs.Prelude.{◌≡◌, ℕ, List, [], ◌∷◌, Option, Some, None, Bool, false, ◌&&◌, ◌||◌, not, if◌then◌else◌}
 use Rattle.std.specs.List.{list_any}
 use Rattle.std.specs.FinMap.{contains_key, entries, get, retain_keys}
-use Rattle.row_types.specs.declared.value.Value.{Value}
-use Rattle.indexed_rows.specs.Rows.{Table, is_same, put_in}
-use Rattle.table_state.specs.Tables.{TableState}
+use Rattle.instances.specs.row_types.specs.declared.value.Value.{Value}
+use Rattle.instances.specs.indexed_rows.specs.Rows.{Table, is_same, put_in}
+use Rattle.instances.specs.table_state.specs.Tables.{TableState}
 use Rattle.instances.specs.declared.tree.Tree.{Tree}
 use Rattle.instances.specs.Roots.{root_at}
 use Rattle.instances.specs.Views.{instance_of, kept_at, root_rows, view_of, with_children}

@@ -1,7 +1,7 @@
 -- Recency over slots, and over the keys of the rows in them.
 use Rattle.std.specs.Prelude.{◌≡◌, ℕ, List, Some, map, nat_eq, slice_get}
-use Rattle.row_types.specs.declared.value.Value.{Value}
-use Rattle.indexed_rows.specs.Rows.{is_same}
+use Rattle.instances.specs.row_types.specs.declared.value.Value.{Value}
+use Rattle.instances.specs.indexed_rows.specs.Rows.{is_same}
 use Rattle.recency.specs.Rings.{touched, keys_without}
 
 -- a slot's key is that of no other slot of these

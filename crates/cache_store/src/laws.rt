@@ -1,8 +1,8 @@
 //! Laws of the definitions, each on the contract of a function that does nothing.
 
 ghost use Rattle.std.specs.Prelude.{◌≡◌, ℕ, List, true};
-ghost use Rattle.row_types.specs.declared.value.Value.{Value};
-ghost use Rattle.table_state.specs.Tables.{TableState};
+ghost use Rattle.instances.specs.row_types.specs.declared.value.Value.{Value};
+ghost use Rattle.instances.specs.table_state.specs.Tables.{TableState};
 ghost use Rattle.instances.specs.declared.tree.Tree.{Tree};
 ghost use Rattle.instances.specs.Views.{view_of};
 ghost use Rattle.cache_store.specs.Covering.{CoversTables};

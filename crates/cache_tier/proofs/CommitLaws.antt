@@ -36,7 +36,7 @@ use Rattle.cache_tier.specs.declared.group.GroupDef.{GroupDef}
 use Rattle.cache_tier.specs.CommitSteps.{committed_unsettled, sealed_own}
 use Rattle.cache_tier.specs.Groups.{Group, covers, group_over, is_key, is_read_only, is_writethrough}
 use Rattle.cache_tier.specs.Recency.{entered, entered_by, left_by, with_commit, with_entered}
-use Rattle.cache_tier.specs.Shown.{all_over, no_rows, root_key, shown, shown_state, shown_where, table_of_group}
+use Rattle.cache_tier.specs.Shown.{no_rows, root_key, shown, shown_state, shown_where, table_of_group}
 use Rattle.cache_tier.specs.Standing.{KnowsSchema}
 use Rattle.cache_tier.specs.TierStates.{Session, Tier, at_rest, session_of}
 use Rattle.cache_tier.specs.Worlds.{World}
@@ -44,8 +44,8 @@ use Rattle.cache_tier.proofs.ApartLaws.{commit}
 use Rattle.cache_tier.proofs.PositionLaws.{commit_lessens, map_one}
 use Rattle.cache_tier.specs.StandingBetween.{AreReadAt, Each, HasCatalog, HasKeys, HaveOwnLabels, HaveWritten, IsCatalogued, IsReadWithin, Stands, are_written_through, live_groups_of, own_writes, progress_in}
 use Rattle.cache_tier.specs.Events.{TakesOwn, with_tier}
-use Rattle.cache_tier.proofs.GroupPairs.{FoundBoth, IsKept, NoGroup, OneGroup, Pairs, all_same_through, catalogued_kept, found_both, own_tables_kept, pairs_each, pairs_mapped, same_live, same_tables, same_through}
-use Rattle.cache_tier.proofs.GroupTables.{LiveTable, each_found, live_table, over_is_found, read_only_not, through_live, through_on}
+use Rattle.cache_tier.proofs.GroupPairs.{FoundBoth, IsKept, NoGroup, OneGroup, Pairs, all_same_through, catalogued_kept, found_both, own_tables_kept, pairs_each, pairs_mapped, same_live}
+use Rattle.cache_tier.proofs.GroupTables.{LiveTable, each_found, live_table, over_is_found, through_live, through_on}
 use Rattle.cache_tier.proofs.HistoryKeeps.{each_both, root_covers}
 use Rattle.cache_tier.proofs.KeyListLaws.{key_append, key_entered, key_in_map, map_with, map_without}
 use Rattle.cache_tier.proofs.PartLaws.{IsClosedPart, Row, between, parts_after}

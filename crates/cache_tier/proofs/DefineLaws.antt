@@ -1,5 +1,5 @@
 -- A group is defined.
-use Rattle.std.proofs.Common.{◌≡◌, ℕ, zero, suc, ◌+◌, ◌<◌, ◌≤◌, Bool, true, false, cond, not, ◌&&◌, ◌||◌, ◌⊎◌, inl, inr, Option, Some, None, is_some, List, [], ◌∷◌, ◌++◌, length, slice_get, unwrap_or, map, refl, sym, ap, subst, ◌∙◌, arith, append_assoc}
+use Rattle.std.proofs.Common.{◌≡◌, ℕ, zero, suc, ◌+◌, Bool, true, false, cond, not, ◌&&◌, ◌||◌, ◌⊎◌, inl, inr, Option, Some, None, is_some, List, [], ◌∷◌, ◌++◌, length, slice_get, unwrap_or, map, refl, sym, ap, subst, ◌∙◌}
 use Rattle.std.proofs.lemmas.List.{append-nil, map-append}
 use Rattle.std.proofs.lemmas.List.Elements.{filter-append}
 use Rattle.std.proofs.lemmas.List.Folds.{list_any-append}
@@ -33,8 +33,7 @@ use Rattle.order_laws.specs.Pipelines.{FlowsAs, Pipeline}
 use Rattle.order_laws.proofs.FlowLaws.{flow_group}
 use Rattle.cache_tier.specs.Commits.{live_group, tables_of}
 use Rattle.cache_tier.specs.Groups.{Group, covers, is_explicit, is_key, is_read_only, is_table_of, is_writethrough}
-use Rattle.cache_tier.specs.Sets.{has_something}
-use Rattle.cache_tier.specs.Shown.{shown, shown_in, shown_state, shown_table, shown_where, shows_root, table_of_group}
+use Rattle.cache_tier.specs.Shown.{shown, shown_in, shown_state, shown_where, shows_root, table_of_group}
 use Rattle.cache_tier.specs.TierStates.{Tier}
 use Rattle.cache_tier.specs.Worlds.{World}
 use Rattle.cache_tier.proofs.PositionLaws.{hidden_empty, push_one}

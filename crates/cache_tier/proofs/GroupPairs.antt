@@ -8,7 +8,7 @@ use Rattle.table_state.specs.Operations.{table_of}
 use Rattle.cache_tier.specs.declared.group.GroupDef.{GroupDef}
 use Rattle.cache_tier.specs.Commits.{live_group}
 use Rattle.cache_tier.specs.Groups.{Group, covers, is_table_of, is_writethrough}
-use Rattle.cache_tier.specs.StandingBetween.{Each, HasNoTableOf, HaveOwnTables, IsCatalogued, IsReadWithin, are_written_through, live_groups_of}
+use Rattle.cache_tier.specs.StandingBetween.{Each, HaveOwnTables, IsCatalogued, are_written_through, live_groups_of}
 
 -- the second is the first with other keys, positions or flags
 pub record IsKept (g h : Group) : Type 0 where

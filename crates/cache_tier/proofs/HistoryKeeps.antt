@@ -34,7 +34,7 @@ use Rattle.cache_tier.specs.Groups.{Group, covers, group_over, is_explicit, is_k
 use Rattle.cache_tier.specs.Shown.{exceeds, shown, shown_in, shown_state, shown_table, shown_where, shows_root, table_of_group}
 use Rattle.cache_tier.specs.TierStates.{Tier}
 use Rattle.cache_tier.specs.Worlds.{IsUnshared, World}
-use Rattle.cache_tier.specs.StandingBetween.{Each, HasKeys, HaveWritten, IsReadWithin, Stands, are_written_through, live_groups_of, own_writes, progress_in}
+use Rattle.cache_tier.specs.StandingBetween.{Each, HasKeys, IsReadWithin, Stands, are_written_through, live_groups_of, own_writes, progress_in}
 use Rattle.cache_tier.specs.Events.{StaysShown, at_history, settled_to}
 use Rattle.cache_tier.proofs.GroupTables.{each_found, each_map, live_table, over_is_found, same_found, through_live, through_on}
 use Rattle.cache_tier.proofs.SessionLaws.{Known, known}

@@ -1,5 +1,5 @@
 -- The keys of one writethrough group change.
-use Rattle.std.proofs.Common.{◌≡◌, ℕ, zero, suc, ◌+◌, ◌≤◌, Bool, true, false, cond, not, ◌&&◌, ◌||◌, inr, nat_eq, Option, Some, None, is_some, List, [], ◌∷◌, ◌++◌, length, slice_get, unwrap_or, refl, sym, ap, subst, ◌∙◌, arith, eqb-true}
+use Rattle.std.proofs.Common.{◌≡◌, ℕ, ◌+◌, Bool, true, false, cond, not, ◌&&◌, ◌||◌, inr, nat_eq, Option, Some, None, is_some, List, [], ◌∷◌, length, slice_get, unwrap_or, refl, sym, ap, subst, ◌∙◌, arith, eqb-true}
 use Rattle.std.specs.Option.{option_and_then}
 use Rattle.std.specs.List.{find, list_all}
 use Rattle.std.specs.FinMap as fm
@@ -23,7 +23,7 @@ use Rattle.order_laws.specs.OpenWrites.{AllApply}
 use Rattle.cache_tier.specs.declared.group.GroupDef.{GroupDef}
 use Rattle.cache_tier.specs.Groups.{Group, covers, group_over, is_key, is_read_only, is_writethrough, with_keys, without_keys}
 use Rattle.cache_tier.specs.Sets.{alone, changed, changed_from}
-use Rattle.cache_tier.specs.Shown.{instances_where, root_key, shown, shown_in, shown_state, shown_table, shown_where, shows_root, table_of_group}
+use Rattle.cache_tier.specs.Shown.{instances_where, root_key, shown, shown_in, shown_state, shown_table, shown_where, table_of_group}
 use Rattle.cache_tier.specs.Standing.{AreDistinct}
 use Rattle.cache_tier.specs.Targets.{has_flag, with_flag}
 use Rattle.cache_tier.specs.TierStates.{Session, Tier}
@@ -36,7 +36,7 @@ use Rattle.cache_tier.specs.Events.{with_tier}
 use Rattle.cache_tier.specs.Loading.{IsUntouchedBy, MayLoad, MayUnload, ShowsKeys}
 use Rattle.cache_tier.proofs.ChosenGroups.{changed_kept, each_at, each_chosen, found_changed, table_unchosen}
 use Rattle.cache_tier.proofs.GroupPairs.{IsKept, Pairs, catalogued_kept, own_tables_kept, pairs_each, same_kind, same_live}
-use Rattle.cache_tier.proofs.GroupTables.{IsFound, LiveTable, each_changed, each_own, live_at, live_table, over_is_found, read_only_not, through_live}
+use Rattle.cache_tier.proofs.GroupTables.{IsFound, LiveTable, each_own, over_is_found, read_only_not}
 use Rattle.cache_tier.proofs.HistoryKeeps.{all_through_on, root_covers}
 use Rattle.cache_tier.proofs.KeyListLaws.{key_in_map, key_with, key_without}
 use Rattle.cache_tier.proofs.LesserLaws.{AreSameAt, applies_to_lesser}

@@ -35,7 +35,7 @@ use Rattle.cache_tier.proofs.HistoryKeeps.{root_covers}
 use Rattle.cache_tier.proofs.LoadLaws.{found_before, gone_tests, part_after, root_after, root_before, row_of, shrinks, tables_stay, unload_keeps, unload_stays}
 use Rattle.cache_tier.proofs.PartLaws.{IsClosedPart, Row}
 use Rattle.cache_tier.proofs.SessionLaws.{Known, known}
-use Rattle.cache_tier.proofs.ShownTables.{InTree, AtChild, AtRoot, child_plain, cond_some, in_tree_at, live_of, root_plain, same_id}
+use Rattle.cache_tier.proofs.ShownTables.{InTree, AtChild, AtRoot, child_plain, in_tree_at, live_of, root_plain, same_id}
 use Rattle.cache_tier.proofs.ShownTrees.{SoundChild, at_place, child_kept, front_kept, get_child, place_there, sound_child}
 
 -- keys of instances as a list

@@ -29,7 +29,7 @@ use Rattle.cache_tier.specs.Events.{with_tier}
 use Rattle.cache_tier.specs.Refreshing.{MayRefresh, ShowsRefreshed}
 use Rattle.cache_tier.proofs.ChosenGroups.{changed_kept, each_at, each_chosen, found_changed, table_unchosen}
 use Rattle.cache_tier.proofs.GroupPairs.{IsKept}
-use Rattle.cache_tier.proofs.GroupTables.{LiveTable, find_passes, live_at, live_table, over_is_found, read_only_not}
+use Rattle.cache_tier.proofs.GroupTables.{live_at, live_table, over_is_found, read_only_not}
 use Rattle.cache_tier.proofs.HistoryKeeps.{all_through_on, applies_stay}
 use Rattle.cache_tier.proofs.KeyListLaws.{key_left}
 use Rattle.cache_tier.proofs.PartLaws.{Row}

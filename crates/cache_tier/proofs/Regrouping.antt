@@ -1,7 +1,7 @@
 -- Groups whose keys, positions or flags change.
 use Rattle.std.proofs.Common.{◌≡◌, Bool, true, false, cond, ◌&&◌, Option, Some, None, List, [], ◌∷◌, length, unwrap_or, map, inl, refl, sym, ap, subst, ◌∙◌}
 use Rattle.std.specs.Option.{option_and_then}
-use Rattle.std.specs.List.{filter, find, fold, list_all}
+use Rattle.std.specs.List.{filter, find, fold}
 use Rattle.tier_base.specs.declared.number.TableId.{TableId}
 use Rattle.row_types.specs.declared.value.Value.{Value}
 use Rattle.table_state.specs.declared.footprint.RowKey.{RowKey}

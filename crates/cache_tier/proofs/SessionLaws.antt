@@ -44,7 +44,7 @@ use Rattle.row_types.specs.declared.rule.Rule.{Rule}
 use Rattle.sql_subset.specs.declared.request.OpenOptions.{OpenOptions}
 use Rattle.tier_base.specs.declared.code.Code.TheVariants as code
 use Rattle.tier_base.specs.declared.limit.Limit.TheVariants as limit
-use Rattle.cache_tier.specs.StandingBetween.{HaveOwnLabels, HaveWritten, Stands, are_written_through, own_writes, progress_in}
+use Rattle.cache_tier.specs.StandingBetween.{HaveOwnLabels, HaveWritten, Stands, are_written_through, own_writes}
 use Rattle.cache_tier.specs.Events.{HaveNewKeys, HasNewKey, MayWriteMore, StaysShown, with_tier}
 use Rattle.cache_tier.proofs.GroupTables.{through_on}
 use Rattle.cache_tier.proofs.PartLaws.{AreNewKeys, IsClosedPart, IsNewKey, Row, applies_to_whole, parts_after, then_is}

@@ -24,7 +24,7 @@ use Rattle.order_laws.specs.Standing.{live_tables}
 use Rattle.order_laws.proofs.TableLaws.{get_same}
 use Rattle.order_laws.proofs.TruthLaws.{both_true, same_some}
 use Rattle.cache_tier.specs.Groups.{Group, covers, is_key, is_writethrough}
-use Rattle.cache_tier.specs.Shown.{root_key, shown, shown_in, shown_state, shown_table, shown_where, shows_root, state_behind, table_of_group, tables_from}
+use Rattle.cache_tier.specs.Shown.{root_key, shown, shown_in, shown_state, shown_table, shown_where, shows_root, table_of_group, tables_from}
 use Rattle.cache_tier.specs.TierStates.{Tier}
 use Rattle.cache_tier.specs.StandingBetween.{HasCatalog, IsCatalogued, foreign_key_in, has_no_where, live_groups_of}
 use Rattle.cache_tier.proofs.GroupTables.{LiveTable, each_found, live_at, live_table, over_is_found, read_only_not, same_found, through_live}

@@ -40,11 +40,11 @@ use Rattle.cache_tier.specs.ConsoleSteps.{refers_to_writethrough}
 use Rattle.cache_tier.specs.Defining.{ShowsSchema, ShowsTable, with_tables}
 use Rattle.cache_tier.specs.Events.{StaysShown, at_history, with_tier}
 use Rattle.cache_tier.proofs.CommitLaws.{all_known, none_meet_later, stands_by}
-use Rattle.cache_tier.proofs.GroupTables.{any_found, each_changed, each_found, each_last, each_map, in_tree, live_table, over_is_found, read_only_not}
+use Rattle.cache_tier.proofs.GroupTables.{each_found, each_map, in_tree, over_is_found}
 use Rattle.cache_tier.proofs.HistoryKeeps.{AreAlike, root_covers, same_shown, shown_alike}
 use Rattle.cache_tier.proofs.SessionLaws.{Known, known}
-use Rattle.cache_tier.proofs.ShownTables.{defined_in, from_length, live_of, no_table_shown, same_id, same_state, table_shown}
-use Rattle.cache_tier.proofs.ShownTrees.{at_place, front_kept, sound_child}
+use Rattle.cache_tier.proofs.ShownTables.{defined_in, from_length, no_table_shown, same_state, table_shown}
+use Rattle.cache_tier.proofs.ShownTrees.{at_place, sound_child}
 
 -- A table is defined.
 

@@ -2,7 +2,7 @@
 -- Guide, "Automatically refreshing a cache group", "Implementing aging on a cache group"; the order is this project's
 -- rule.)
 
-use Rattle.std.specs.Prelude.{◌≡◌, ◌⊎◌, ℕ, nat_eq, nat_lt, List, [], ◌∷◌, ◌++◌, Bool, ◌&&◌, ◌||◌, Option, Some, None, if◌then◌else◌, find}
+use Rattle.std.specs.Prelude.{◌≡◌, ℕ, nat_eq, nat_lt, List, [], ◌∷◌, ◌++◌, Bool, ◌&&◌, ◌||◌, Option, Some, None, if◌then◌else◌, find}
 use Rattle.std.specs.List.{filter}
 use Rattle.std.specs.Option.{option_map, unwrap_or}
 use Rattle.tier_base.specs.Codes.{number_of}
@@ -19,7 +19,7 @@ use Rattle.cache_tier.specs.Groups.{Group, is_on, is_read_only}
 use Rattle.cache_tier.specs.Rounds.{Round}
 use Rattle.cache_tier.specs.Sets.{RefreshesIfShown}
 use Rattle.cache_tier.specs.TierStates.{Tier, is_of_interval}
-use Rattle.cache_tier.specs.Worlds.{OnlyWhere, Stage, World, faulty}
+use Rattle.cache_tier.specs.Worlds.{OnlyWhere, Stage, World}
 
 -- an item of due work: it may tell notes, or end the line
 abbrev pub Item : Type 1

@@ -1,6 +1,6 @@
 -- Small facts, by which the definitions are tested.
 
-use Rattle.std.specs.Prelude.{◌≡◌, ◌⊎◌, ℕ, ℤ, ◌≤ℤ◌, List, [], ◌++◌, Bool, true, false, Option, Some, None, Ok, slice_get}
+use Rattle.std.specs.Prelude.{◌≡◌, ℕ, ℤ, ◌≤ℤ◌, List, [], ◌++◌, Bool, true, false, Option, Some, None, Ok, slice_get}
 use Rattle.row_types.specs.declared.value.Value.{Value}
 use Rattle.tier_base.specs.declared.code.Code.TheVariants as code
 use Rattle.row_types.specs.declared.value.Value.TheVariants.{Time}
@@ -32,7 +32,7 @@ use Rattle.cache_tier.specs.Shown.{all_over, shows_root}
 use Rattle.cache_tier.specs.Steps.{Asked, DoesRequest, Run}
 use Rattle.cache_tier.specs.TierStates.{Doubt, Session, Settings, Tier}
 use Rattle.cache_tier.specs.Wants.{loaded_want, wanted_by_query}
-use Rattle.cache_tier.specs.Worlds.{World, faulty, only}
+use Rattle.cache_tier.specs.Worlds.{World, only}
 
 -- the outside is untouched: nothing but the tier may differ
 pub record IsUntouched (w w' : World) : Type 0 where

@@ -1,7 +1,7 @@
 -- What each line of the tier keeps: the history only grows, the journal goes on or is begun anew, or is none still, and
 -- counts, moments and the next ticket never fall.
 
-use Rattle.std.specs.Prelude.{◌≡◌, ℕ, ◌≤◌, List, ◌++◌, Option}
+use Rattle.std.specs.Prelude.{◌≡◌, ℕ, ◌≤◌, List, Option}
 use Rattle.outside.specs.Calls.{Lengthens}
 use Rattle.cache_tier.specs.declared.reply.Reply.{Reply}
 use Rattle.cache_tier.specs.JournalWays.{beginning_of}

@@ -1,7 +1,7 @@
 -- What the slots of a journal give on its way, and how long the backing history is then. (This project's rule.)
 
 use Rattle.std.specs.Prelude.{◌≡◌, ◌⊎◌, ℕ, ◌≤◌, List, [], ◌∷◌, Some}
-use Rattle.cache_tier.specs.Journals.{Journal, JournalEntry, Stretch, Way}
+use Rattle.cache_tier.specs.Journals.{Journal, JournalEntry, Stretch}
 
 -- The slots give these entries while the history has so many: over each stretch, from where the one before it ended,
 -- its own; and from there to the end those that are flushed now.

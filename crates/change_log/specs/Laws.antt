@@ -1,7 +1,7 @@
 -- Why the net of a log is what changed.
 
 use Rattle.std.specs.Prelude.{◌≡◌, ℕ, List, ◌++◌, Some, drop}
-use Rattle.tier_base.specs.declared.number.TableId.{TableId}
+use Rattle.table_state.specs.tier_base.specs.declared.number.TableId.{TableId}
 use Rattle.table_state.specs.declared.history.Entry.{Entry}
 use Rattle.table_state.specs.declared.operation.Op.{Op}
 use Rattle.table_state.specs.Histories.{state_at, state_from, state_of}

@@ -2,9 +2,9 @@
 
 use Rattle.std.specs.Prelude.{◌≡◌, List, [], ◌∷◌, ◌++◌, None, if◌then◌else◌}
 use Rattle.std.specs.FinMap.{contains_key, get}
-use Rattle.row_types.specs.declared.value.Value.{Value}
-use Rattle.tier_base.specs.declared.number.TableId.{TableId}
-use Rattle.indexed_rows.specs.Rows.{Table}
+use Rattle.table_state.specs.row_types.specs.declared.value.Value.{Value}
+use Rattle.table_state.specs.tier_base.specs.declared.number.TableId.{TableId}
+use Rattle.table_state.specs.indexed_rows.specs.Rows.{Table}
 use Rattle.change_log.specs.declared.log.RowChange.{RowChange}
 use Rattle.change_log.specs.Logs.{after_log, is_changed, is_same_row}
 use Rattle.change_log.specs.Tags.{tagged}

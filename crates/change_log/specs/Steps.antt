@@ -1,10 +1,10 @@
 -- The log that operations and histories leave. (This project's model of the backing database.)
 
 use Rattle.std.specs.Prelude.{◌≡◌, List, [], ◌∷◌, ◌++◌, Option, Some, None, map, slice_get, if◌then◌else◌}
-use Rattle.row_types.specs.declared.value.Value.{Value}
-use Rattle.tier_base.specs.declared.number.TableId.{TableId}
-use Rattle.table_defs.specs.declared.definition.TableDef.{TableDef}
-use Rattle.indexed_rows.specs.Rows.{key_of}
+use Rattle.table_state.specs.row_types.specs.declared.value.Value.{Value}
+use Rattle.table_state.specs.tier_base.specs.declared.number.TableId.{TableId}
+use Rattle.table_state.specs.table_defs.specs.declared.definition.TableDef.{TableDef}
+use Rattle.table_state.specs.indexed_rows.specs.Rows.{key_of}
 use Rattle.table_state.specs.declared.history.Entry.{Entry}
 use Rattle.table_state.specs.declared.history.Entry.TheVariants.{Definition, Foreign, Own}
 use Rattle.table_state.specs.declared.operation.Op.{Op}

@@ -10,11 +10,11 @@ ghost use Rattle.change_log.specs.Netting.{where_it_differs};
 
 use crate::log::{Log, RowChange};
 use crate::netting::{copied_row, is_same_place};
-use indexed_rows::Rows;
-use row_types::{Key, Row};
 use std::alloc::{AllocError, Global};
 use table_state::Tables;
-use tier_base::{Seq, TableId};
+use table_state::indexed_rows::Rows;
+use table_state::row_types::{Key, Row};
+use table_state::tier_base::{Seq, TableId};
 
 /// What changed in these tables between two states: one entry for each key whose row differs.
 ///

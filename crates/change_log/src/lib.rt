@@ -13,3 +13,5 @@ pub use laws::net_law;
 pub use log::{Log, RowChange};
 pub use logging::logged;
 pub use netting::net;
+pub use table_state;
+pub use table_state::{indexed_rows, numbers, row_types, table_defs, tier_base};

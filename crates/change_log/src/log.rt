@@ -1,7 +1,7 @@
 //! Entries of the log.
 
-use row_types::{Key, Row};
-use tier_base::{Seq, TableId};
+use table_state::row_types::{Key, Row};
+use table_state::tier_base::{Seq, TableId};
 
 /// A change of one row.
 pub struct RowChange {

@@ -7,11 +7,11 @@ ghost use Rattle.change_log.specs.Steps.{change_of, changes_of, entry_changes, k
 
 use crate::changing::is_one_of;
 use crate::log::{Log, RowChange};
-use row_types::{Key, Row};
 use std::alloc::{AllocError, Global};
-use table_defs::{BackingSchema, TableDef};
+use table_state::row_types::{Key, Row};
+use table_state::table_defs::{BackingSchema, TableDef};
+use table_state::tier_base::{Seq, TableId};
 use table_state::{Entry, Op, key_of_row};
-use tier_base::{Seq, TableId};
 
 /// The log of entries of a history, in some tables: a change for each of their operations. The definitions are those
 /// that stand behind the entries.

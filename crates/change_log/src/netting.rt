@@ -2,18 +2,18 @@
 
 ghost use Rattle.std.specs.Prelude.{◌≡◌, [], ◌++◌, List, IfOk, OnOk, not, option_copied, true, if◌then◌else◌};
 ghost use Rattle.std.specs.FinMap as map;
-ghost use Rattle.row_types.specs.declared.value.Value.{Value as OneValue};
-ghost use Rattle.tier_base.specs.declared.number.TableId.{TableId as OneTable};
+ghost use Rattle.table_state.specs.row_types.specs.declared.value.Value.{Value as OneValue};
+ghost use Rattle.table_state.specs.tier_base.specs.declared.number.TableId.{TableId as OneTable};
 ghost use Rattle.change_log.specs.Logs.{IsNet, is_at, is_changed, is_same_row};
 ghost use Rattle.change_log.specs.Netting.{HoldsKeys, HoldsLast, net_from, to_last, where_it_differs};
 ghost use Rattle.change_log.specs.Tags.{tagged};
 
 use crate::log::{Log, RowChange};
 use crate::tags::tagged;
-use indexed_rows::{Rows, is_same_row};
-use row_types::Row;
 use std::alloc::{AllocError, Global};
-use tier_base::Seq;
+use table_state::indexed_rows::{Rows, is_same_row};
+use table_state::row_types::Row;
+use table_state::tier_base::Seq;
 
 /// The net of a log: one entry for each key whose row before its first entry and after its last one differ, in the
 /// order of the first entries.

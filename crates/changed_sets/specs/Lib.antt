@@ -8,3 +8,4 @@ pub mod Showing
 pub mod Since
 pub mod Told
 pub mod Turning
+pub mod OfAgingCycles

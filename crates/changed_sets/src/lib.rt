@@ -11,3 +11,8 @@ pub mod showing;
 pub mod since;
 mod turning;
 mod turns;
+
+pub use aging_cycles::age;
+pub use aging_cycles::confirming::confirm;
+pub use aging_cycles::fitting::are_fit;
+pub use aging_cycles::laws::kept_rows_law;

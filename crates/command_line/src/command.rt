@@ -13,7 +13,7 @@ use std::alloc::{AllocError, Global};
 use thiserror::Error;
 
 /// What the program is to do.
-#[derive(Clone, Copy, Debug, PartialEq, Eq)]
+#[derive(Clone, Copy)]
 pub enum Command<'a> {
     /// Answers each request line.
     Run,
@@ -77,9 +77,8 @@ fn command_line<'a>(alloc: Global) -> Result<ClapCommand<'a>, AllocError>
     ensures local { IfOk result (λ c. (out-Command c).has_globals ≡ false) }
 {
     let command = given_lines(alloc)?;
-    let make = counting(alloc, "make")?;
-    let bench = counting(alloc, "bench")?;
-    with_word(with_word(command, make)?, bench)
+    let command = with_count(alloc, command, "make")?;
+    with_count(alloc, command, "bench")
 }
 
 /// The part of the command line whose commands read what is given to the program.
@@ -87,11 +86,9 @@ fn given_lines<'a>(alloc: Global) -> Result<ClapCommand<'a>, AllocError>
     ensures app { IfOk result (λ c. app_of c ≡ given_lines) }
     ensures local { IfOk result (λ c. (out-Command c).has_globals ≡ false) }
 {
-    let run = ClapCommand::new(alloc, "run");
-    let check = ClapCommand::new(alloc, "check");
-    let import = importing(alloc)?;
-    let command = with_word(with_word(wanting(alloc), run)?, check)?;
-    with_word(command, import)
+    let command = with_word(wanting(alloc), ClapCommand::new(alloc, "run"))?;
+    let command = with_word(command, ClapCommand::new(alloc, "check"))?;
+    with_word(command, importing(alloc)?)
 }
 
 /// The program's name alone, behind which a command must stand.
@@ -115,6 +112,19 @@ fn with_word<'a>(
     ensures local { IfOk result (λ c. (out-Command c).has_globals ≡ false) }
 {
     command.subcommand(word)
+}
+
+/// One more command, with a number behind its word.
+fn with_count<'a>(
+    alloc: Global,
+    command: ClapCommand<'a>,
+    word: &'a str,
+) -> Result<ClapCommand<'a>, AllocError>
+    requires plain { (out-Command command).has_globals ≡ false }
+    ensures app { IfOk result (λ c. app_of c ≡ with_subcommand (app_of command.entry) (counting word.entry.now).top) }
+    ensures local { IfOk result (λ c. (out-Command c).has_globals ≡ false) }
+{
+    with_word(command, counting(alloc, word)?)
 }
 
 /// A command with a number behind its word.

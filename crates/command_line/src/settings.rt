@@ -12,7 +12,7 @@ use thiserror::Error;
 use toml::{Table, Value};
 
 /// What the moments of a run are counted from.
-#[derive(Clone, Copy, Debug, PartialEq, Eq)]
+#[derive(Clone, Copy)]
 pub enum ClockSource {
     /// `"script"`: from `start_ms`.
     Script,
@@ -21,7 +21,7 @@ pub enum ClockSource {
 }
 
 /// The settings, each by its key. All are read and checked, and all but `workers` act.
-#[derive(Clone, Copy, Debug, PartialEq, Eq)]
+#[derive(Clone, Copy)]
 pub struct Settings {
     /// How many threads propagate committed transactions, from 1 to 16; 1 by default.
     pub workers: u64,

@@ -1,5 +1,5 @@
 -- What the slots say while a journal is opened.
-use Rattle.std.proofs.Common.{◌≡◌, ◌≢◌, ℕ, suc, ◌≤◌, ◌<◌, ◌⊎◌, List, [], ◌∷◌, ◌++◌, length, get_or, drop, refl, sym, ap, subst, ◌∙◌, arith, inl, inr, Option, Some, None}
+use Rattle.std.proofs.Common.{◌≡◌, ◌≢◌, ℕ, suc, ◌≤◌, ◌⊎◌, List, [], ◌∷◌, ◌++◌, length, get_or, drop, refl, sym, ap, subst, ◌∙◌, arith, inl, inr, Option, Some, None}
 use Rattle.std.proofs.lemmas.List.{drop_all}
 use Rattle.outside.specs.declared.disk.Slot.{Slot}
 use Rattle.outside.specs.Sites.{SiteState}
@@ -11,32 +11,19 @@ use Rattle.journal_entries.specs.Bodies.{beginning, ends}
 use Rattle.commit_journal.specs.declared.head.Head.{Head}
 use Rattle.commit_journal.specs.declared.head.Head.TheVariants.{Dead, Faulty, Live}
 use Rattle.commit_journal.specs.declared.opening.Opened.{Opened}
-use Rattle.commit_journal.specs.Layout.{Batches, Beats, closed, Closed, counts, faulty, HaveBytes, head_of, new, Outcome, place_of, Placed, Reads}
+use Rattle.commit_journal.specs.Layout.{Batches, Beats, closed, Closed, counts, faulty, HaveBytes, head_of, new, Placed, Reads}
 use Rattle.commit_journal.specs.Batching.{MidBatch, HasBatch}
 use Rattle.commit_journal.specs.Opening.{Finds, Keeps, Opens}
+use Rattle.commit_journal.proofs.CountLaws.{given_reads, given_same, have_both, reads_counts, reads_none, some_in}
+use Rattle.commit_journal.proofs.OneJournal.{one_journal}
+use Rattle.commit_journal.proofs.TailLaws.{some_at}
 use Rattle.commit_journal.proofs.TurnLaws.{other_other, is_one, head_split}
 use Rattle.commit_journal.proofs.BatchLaws.{PutCrash, PutCertain}
 use Rattle.commit_journal.proofs.Pieces.{torn_gate, put_gate}
 use Rattle.commit_journal.proofs.RotateLaws.{dead_from, dead_first, live_first, header, header_front}
 
-pub keeps_same : (o p : Held) → p ≡ o → Keeps o p
-keeps_same o p e = rw e (record { beside = refl; reads = λ entries damaged r. r })
-
-pub dead_at : (slots : Slots) → head_of slots.first ≡ Dead → head_of slots.second ≡ Dead → (slot : Slot) → head_of (slot_of slot slots) ≡ Dead
-dead_at slots a b First = a
-dead_at slots a b Second = b
-
-pub no_faulty : (h : Head) (p : ℕ) → h ≡ Dead → h ≡ Faulty p → ⊥
-no_faulty h p a b = let z : ◌≡◌ {A = Head} Dead (Faulty p) = sym a ∙ b in absurd cc
-
-no_live : (h : Head) (v g : ℕ) → h ≡ Dead → h ≡ Live v g → ⊥
-no_live h v g a b = let z : ◌≡◌ {A = Head} Dead (Live v g) = sym a ∙ b in absurd cc
-
--- where no slot is live nothing is read
-pub reads_none : {slots : Slots} {entries : List Placed} {damaged : Option (Slot × ℕ)} → Reads slots entries damaged → head_of slots.first ≡ Dead → head_of slots.second ≡ Dead → (entries ≡ []) × (damaged ≡ None)
-reads_none (new a b) first second = (refl, refl)
-reads_none {slots} (faulty slot place h is) first second = absurd (no_faulty (head_of (slot_of slot slots)) place (dead_at slots first second slot) h)
-reads_none {slots} (counts slot v g out h beats b) first second = absurd (no_live (head_of (slot_of slot slots)) v g (dead_at slots first second slot) h)
+pub keeps_same : (o p : Held) → HaveBytes o.slots → p ≡ o → Keeps o p
+keeps_same o p have e = rw e (record { beside = refl; bytes = have; reads = λ entries damaged r. r; says = λ entries damaged r. r })
 
 abbrev pub new_bytes : List ℕ
 new_bytes = 2 ∷ 0 ∷ 0 ∷ 0 ∷ 0 ∷ 0 ∷ 0 ∷ 0 ∷ 1 ∷ 0 ∷ []
@@ -59,19 +46,27 @@ module _ (o : Held) (gate : ℕ) (junk : List ℕ) (there : o.slots.first ≡ ga
       let bs : Batches 2 beginning 10 (drop 10 p.slots.first) [] (Closed 10 beginning) = subst (λ (l : List ℕ). Batches 2 beginning 10 (drop 10 l) [] (Closed 10 beginning)) (sym is) (made_batches junk') in
       counts First 2 1 (Closed 10 beginning) head beats bs
 
-  pub make_keeps : (p : Held) → MidBatch First [] gate new_bytes o p → Keeps o p
-  make_keeps p m =
+  pub make_keeps : 1 ≤ length o.slots.second → (p : Held) → MidBatch First [] gate new_bytes o p → Keeps o p
+  make_keeps some p m =
       let here : Reads p.slots [] None = elim m.there [
         | inl h ↦ dead_reads p m.other_same (λ e. shut (sym (ap (λ (l : List ℕ). get_or l 0 0) h.1) ∙ e))
         | inr h ↦ is_one (Reads p.slots [] None) h.0
             (λ one. live_reads p h.1 m.other_same (h.2 ∙ ap (λ (x : ℕ). x ∷ (new_bytes ++ h.1)) one))
             (λ none. dead_reads p m.other_same (λ e. none (sym (ap (λ (l : List ℕ). get_or l 0 0) h.2) ∙ e)))
       ] in
+      let begun : 1 ≤ length p.slots.first = elim m.there [
+        | inl h ↦ some_at [] h.0 gate p.slots.first h.1
+        | inr h ↦ some_at [] (new_bytes ++ h.1) h.0 p.slots.first h.2
+      ] in
       record {
         beside = m.beside;
+        bytes = record { first = begun; second = subst (λ (l : List ℕ). 1 ≤ length l) (sym m.other_same) some };
         reads = λ entries damaged r.
             let z = reads_none r first second in
             subst (λ (d : Option (Slot × ℕ)). Reads p.slots entries d) (sym z.1) (subst (λ (l : List Placed). Reads p.slots l None) (sym z.0) here);
+        says = λ entries damaged r.
+            let z = one_journal here r in
+            subst (λ (d : Option (Slot × ℕ)). Reads o.slots entries d) z.damaged_same (subst (λ (l : List Placed). Reads o.slots l None) z.entries_same (new first second));
       }
 
   pub made : {D : Type 0} (state : D → SiteState) (possible : D → ℕ → Held → Type 0) (d : D) (r : Opened) → 1 ≤ length o.slots.second → HasBatch state possible d First [] new_bytes o
@@ -112,7 +107,7 @@ module _ {D : Type 0} (state : D → SiteState) (possible : D → ℕ → Held �
   pub make_crash : ((o : Held) (front junk : List ℕ) (g : ℕ) → Certain state possible a o → slot_of First o.slots ≡ front ++ g ∷ junk → 0 ≡ length front → Leaves state possible a b (MidBatch First front g new_bytes o)) → Leaves state possible a b (Keeps o)
   make_crash crash =
       let s = some_split o.slots.first have.first in
-      weaker state possible a b (MidBatch First [] s.0 new_bytes o) (Keeps o) (make_keeps o s.0 s.1 s.2 first second) (crash o [] s.1 s.0 h s.2 refl)
+      weaker state possible a b (MidBatch First [] s.0 new_bytes o) (Keeps o) (make_keeps o s.0 s.1 s.2 first second have.second) (crash o [] s.1 s.0 h s.2 refl)
 
   pub make_done : ((o : Held) (front junk : List ℕ) (g : ℕ) → Certain state possible a o → slot_of First o.slots ≡ front ++ g ∷ junk → 0 ≡ length front → HasBatch state possible b First front new_bytes o)
       → (r : Opened) → r.entries.items ≡ [] → r.damaged ≡ None → r.journal.slot ≡ First → r.journal.version ≡ 2 → r.journal.generation ≡ 1 → r.journal.gate ≡ 10 → r.journal.standing ≡ beginning → length r.journal.staged.items ≤ 4 → Opens state possible b o r
@@ -120,62 +115,7 @@ module _ {D : Type 0} (state : D → SiteState) (possible : D → ℕ → Held �
       let s = some_split o.slots.first have.first in
       made o s.0 s.1 s.2 first second state possible b r have.second (batch o [] s.1 s.0 h s.2 refl) entries damaged slot version generation gate standing short
 
--- ---- the slot that counts
-
-live_faulty : (P : Type 0) (h : Head) (v g p : ℕ) → h ≡ Live v g → h ≡ Faulty p → P
-live_faulty P h v g p a b = let z : ◌≡◌ {A = Head} (Live v g) (Faulty p) = sym a ∙ b in absurd cc
-
-live_dead : (P : Type 0) (h : Head) (v g : ℕ) → h ≡ Live v g → h ≡ Dead → P
-live_dead P h v g a b = let z : ◌≡◌ {A = Head} (Live v g) Dead = sym a ∙ b in absurd cc
-
-abbrev version_in : Head → ℕ → ℕ
-version_in Dead d = d
-version_in (Faulty p) d = d
-version_in (Live v g) d = v
-
-abbrev generation_in : Head → ℕ → ℕ
-generation_in Dead d = d
-generation_in (Faulty p) d = d
-generation_in (Live v g) d = g
-
-same_version : (h : Head) (v g v' g' : ℕ) → h ≡ Live v g → h ≡ Live v' g' → v' ≡ v
-same_version h v g v' g' a b = ap (λ (x : Head). version_in x 0) (sym b ∙ a)
-
-same_generation : (h : Head) (v g v' g' : ℕ) → h ≡ Live v g → h ≡ Live v' g' → g' ≡ g
-same_generation h v g v' g' a b = ap (λ (x : Head). generation_in x 0) (sym b ∙ a)
-
--- what one slot gives
-pub record Given (slots : Slots) (slot : Slot) (version : ℕ) (entries : List Placed) (damaged : Option (Slot × ℕ)) : Type 0 where
-  pub outcome : Outcome
-  pub batches : Batches version beginning 10 (drop 10 (slot_of slot slots)) entries outcome
-  pub place : damaged ≡ place_of slot outcome
-
-pub reads_counts : (slot : Slot) {slots : Slots} {entries : List Placed} {damaged : Option (Slot × ℕ)} (v g : ℕ) (h : Head) → head_of (slot_of slot slots) ≡ Live v g → head_of (slot_of (other slot) slots) ≡ h → Beats slot g h → Reads slots entries damaged
-    → Given slots slot v entries damaged
-reads_counts First {slots} {entries} {damaged} v g h mine their wins (new a b) = live_dead (Given slots First v entries damaged) (head_of slots.first) v g mine a
-reads_counts Second {slots} {entries} {damaged} v g h mine their wins (new a b) = live_dead (Given slots Second v entries damaged) (head_of slots.second) v g mine b
-reads_counts First {slots} {entries} {damaged} v g h mine their wins (faulty First p f is) = live_faulty (Given slots First v entries damaged) (head_of slots.first) v g p mine f
-reads_counts First {slots} {entries} {damaged} v g h mine their wins (faulty Second p f is) = absurd (subst (λ (x : Head). Beats First g x) (sym their ∙ f) wins)
-reads_counts Second {slots} {entries} {damaged} v g h mine their wins (faulty First p f is) = absurd (subst (λ (x : Head). Beats Second g x) (sym their ∙ f) wins)
-reads_counts Second {slots} {entries} {damaged} v g h mine their wins (faulty Second p f is) = live_faulty (Given slots Second v entries damaged) (head_of slots.second) v g p mine f
-reads_counts First {slots} {entries} v g h mine their wins (counts First v' g' out f beats b) =
-    record { outcome = out; batches = subst (λ (x : ℕ). Batches x beginning 10 (drop 10 slots.first) entries out) (same_version (head_of slots.first) v g v' g' mine f) b; place = refl }
-reads_counts First {slots} v g h mine their wins (counts Second v' g' out f beats b) =
-    let one : g' ≤ g = subst (λ (x : Head). Beats First g x) (sym their ∙ f) wins in
-    let two : g < g' = subst (λ (x : Head). Beats Second g' x) mine beats in
-    absurd (omega arith)
-reads_counts Second {slots} v g h mine their wins (counts First v' g' out f beats b) =
-    let one : g' < g = subst (λ (x : Head). Beats Second g x) (sym their ∙ f) wins in
-    let two : g ≤ g' = subst (λ (x : Head). Beats First g' x) mine beats in
-    absurd (omega arith)
-reads_counts Second {slots} {entries} v g h mine their wins (counts Second v' g' out f beats b) =
-    record { outcome = out; batches = subst (λ (x : ℕ). Batches x beginning 10 (drop 10 slots.second) entries out) (same_version (head_of slots.second) v g v' g' mine f) b; place = refl }
-
-pub given_reads : (slot : Slot) (slots : Slots) (entries : List Placed) (damaged : Option (Slot × ℕ)) (v g : ℕ) → head_of (slot_of slot slots) ≡ Live v g → Beats slot g (head_of (slot_of (other slot) slots)) → Given slots slot v entries damaged → Reads slots entries damaged
-given_reads slot slots entries damaged v g mine beats x = subst (λ (d : Option (Slot × ℕ)). Reads slots entries d) (sym x.place) (counts slot v g x.outcome mine beats x.batches)
-
-given_same : (slot : Slot) (a b : Slots) (v : ℕ) (entries : List Placed) (damaged : Option (Slot × ℕ)) → slot_of slot b ≡ slot_of slot a → Given a slot v entries damaged → Given b slot v entries damaged
-given_same slot a b v entries damaged same x = record { outcome = x.outcome; batches = subst (λ (l : List ℕ). Batches v beginning 10 (drop 10 l) entries x.outcome) (sym same) x.batches; place = x.place }
+-- ---- two live slots
 
 beats_dead' : (slot : Slot) (g : ℕ) (h : Head) → h ≡ Dead → Beats slot g h
 beats_dead' slot g h e = subst (λ (x : Head). Beats slot g x) (sym e) tt
@@ -189,17 +129,25 @@ module _ (slot u : Slot) (u-is : u ≡ other slot) (o : Held) (v g w k : ℕ) (m
   theirs : (rest : List ℕ) × (slot_of (other slot) o.slots ≡ 1 ∷ rest)
   theirs = head_split (slot_of (other slot) o.slots) (live_first (slot_of (other slot) o.slots) w k their)
 
-  keeps_dead : (p : Held) → p.history ≡ o.history → slot_of slot p.slots ≡ slot_of slot o.slots → head_of (slot_of (other slot) p.slots) ≡ Dead → Keeps o p
-  keeps_dead p beside same dead = record {
+  -- what is read of the slots with the other one dead was read of them before
+  says_dead : (p : Held) → slot_of slot p.slots ≡ slot_of slot o.slots → head_of (slot_of (other slot) p.slots) ≡ Dead → (entries : List Placed) (damaged : Option (Slot × ℕ)) → Reads p.slots entries damaged → Reads o.slots entries damaged
+  says_dead p same dead entries damaged r =
+      let x = reads_counts slot v g Dead (ap (λ (l : List ℕ). head_of l) same ∙ mine) dead tt r in
+      given_reads slot o.slots entries damaged v g mine (subst (λ (y : Head). Beats slot g y) (sym their) wins) (given_same slot p.slots o.slots v entries damaged (sym same) x)
+
+  keeps_dead : HaveBytes o.slots → (p : Held) → p.history ≡ o.history → slot_of slot p.slots ≡ slot_of slot o.slots → head_of (slot_of (other slot) p.slots) ≡ Dead → 1 ≤ length (slot_of (other slot) p.slots) → Keeps o p
+  keeps_dead have p beside same dead some = record {
     beside = beside;
+    bytes = have_both slot p.slots (subst (λ (l : List ℕ). 1 ≤ length l) (sym same) (some_in slot o.slots have)) some;
     reads = λ entries damaged r.
         given_reads slot p.slots entries damaged v g (ap (λ (l : List ℕ). head_of l) same ∙ mine) (beats_dead' slot g (head_of (slot_of (other slot) p.slots)) dead)
         (given_same slot o.slots p.slots v entries damaged same (reads_counts slot v g (Live w k) mine their wins r));
+    says = says_dead p same dead;
   }
 
-  pub close_keeps : (p : Held) → (p ≡ o) ⊎ Changes (other slot) (Torn 0 1) o p → Keeps o p
-  close_keeps p (inl e) = keeps_same o p e
-  close_keeps p (inr c) =
+  pub close_keeps : HaveBytes o.slots → (p : Held) → (p ≡ o) ⊎ Changes (other slot) (Torn 0 1) o p → Keeps o p
+  close_keeps have p (inl e) = keeps_same o p have e
+  close_keeps have p (inr c) =
       let torn : Torn 0 1 (1 ∷ theirs.0) (slot_of (other slot) p.slots) = subst (λ (l : List ℕ). Torn 0 1 l (slot_of (other slot) p.slots)) theirs.1 c.there in
       let is : slot_of (other slot) p.slots ≡ get_or (slot_of (other slot) p.slots) 0 0 ∷ theirs.0 = torn_gate [] 1 theirs.0 (slot_of (other slot) p.slots) torn in
       let same : slot_of slot p.slots ≡ slot_of slot o.slots = subst (λ (s : Slot). slot_of s p.slots ≡ slot_of s o.slots) (other_other slot) (other_stays (other slot) (Torn 0 1) o p c) in
@@ -207,8 +155,10 @@ module _ (slot u : Slot) (u-is : u ≡ other slot) (o : Held) (v g w k : ℕ) (m
       (λ one.
       let whole : slot_of (other slot) p.slots ≡ slot_of (other slot) o.slots = is ∙ ap (λ (x : ℕ). x ∷ theirs.0) one ∙ sym theirs.1 in
       let slots-same : p.slots ≡ o.slots = c.elsewhere ∙ with_same (other slot) (slot_of (other slot) p.slots) o.slots whole in
-      keeps_same o p (same_held p o slots-same c.beside))
-      (λ none. keeps_dead p c.beside same (dead_from (slot_of (other slot) p.slots) none))
+      keeps_same o p have (same_held p o slots-same c.beside))
+      (λ none.
+      keeps_dead have p c.beside same (dead_from (slot_of (other slot) p.slots) none)
+      (some_at [] theirs.0 (get_or (slot_of (other slot) p.slots) 0 0) (slot_of (other slot) p.slots) is))
 
   abbrev pub shut_held : Held
   shut_held = with_bytes (other slot) (patched 0 (0 ∷ []) (slot_of (other slot) o.slots)) o
@@ -227,26 +177,24 @@ module _ (slot u : Slot) (u-is : u ≡ other slot) (o : Held) (v g w k : ℕ) (m
 
   -- what is read of the slots afterwards was read of them before
   pub shut_reads : (entries : List Placed) (damaged : Option (Slot × ℕ)) → Reads shut_held.slots entries damaged → Reads o.slots entries damaged
-  shut_reads entries damaged r =
-      let x = reads_counts slot v g Dead (ap (λ (l : List ℕ). head_of l) shut_mine ∙ mine) shut_dead tt r in
-      given_reads slot o.slots entries damaged v g mine (subst (λ (y : Head). Beats slot g y) (sym their) wins) (given_same slot shut_held.slots o.slots v entries damaged (sym shut_mine) x)
+  shut_reads = says_dead shut_held shut_mine shut_dead
 
   module _ {D : Type 0} (state : D → SiteState) (possible : D → ℕ → Held → Type 0) (a b : D) (h : Certain state possible a o) where
-    pub newer_crash : PutCrash state possible u a b 0 (0 ∷ []) → Leaves state possible a b (Keeps o)
-    newer_crash crash =
+    pub newer_crash : HaveBytes o.slots → PutCrash state possible u a b 0 (0 ∷ []) → Leaves state possible a b (Keeps o)
+    newer_crash have crash =
         let crash' : PutCrash state possible (other slot) a b 0 (0 ∷ []) = subst (λ (s : Slot). PutCrash state possible s a b 0 (0 ∷ [])) u-is crash in
-        weaker state possible a b (λ p. (p ≡ o) ⊎ Changes (other slot) (Torn 0 1) o p) (Keeps o) close_keeps (crash' o h (omega arith))
+        weaker state possible a b (λ p. (p ≡ o) ⊎ Changes (other slot) (Torn 0 1) o p) (Keeps o) (close_keeps have) (crash' o h (omega arith))
 
     pub newer_certain : PutCertain state possible u a b 0 (0 ∷ []) → Certain state possible b shut_held
     newer_certain certain =
         let certain' : PutCertain state possible (other slot) a b 0 (0 ∷ []) = subst (λ (s : Slot). PutCertain state possible s a b 0 (0 ∷ [])) u-is certain in
         certain' o h (omega arith)
 
-    pub newer_then : (c : D) → PutCrash state possible u a b 0 (0 ∷ []) → PutCertain state possible u a b 0 (0 ∷ []) → Rests state possible b c → Leaves state possible a c (Keeps o)
-    newer_then c crash certain rests =
-        and_then state possible a b c (Keeps o) (newer_crash crash)
+    pub newer_then : HaveBytes o.slots → (c : D) → PutCrash state possible u a b 0 (0 ∷ []) → PutCertain state possible u a b 0 (0 ∷ []) → Rests state possible b c → Leaves state possible a c (Keeps o)
+    newer_then have c crash certain rests =
+        and_then state possible a b c (Keeps o) (newer_crash have crash)
         (weaker state possible b c (λ p. p ≡ shut_held) (Keeps o)
-        (λ p e. subst (λ (x : Held). Keeps o x) (sym e) (keeps_dead shut_held refl shut_mine shut_dead))
+        (λ p e. subst (λ (x : Held). Keeps o x) (sym e) (keeps_dead have shut_held refl shut_mine shut_dead shut_some))
         (rests shut_held (newer_certain certain)).1)
 
     pub newer_opens : (c : D) (r : Opened) → PutCertain state possible u a b 0 (0 ∷ []) → Rests state possible b c → Finds shut_held.slots r → Opens state possible c o r
@@ -259,8 +207,8 @@ module _ (slot u : Slot) (u-is : u ≡ other slot) (o : Held) (v g w k : ℕ) (m
     }
 
 module _ {D : Type 0} (state : D → SiteState) (possible : D → ℕ → Held → Type 0) (a b : D) (o : Held) (h : Certain state possible a o) where
-  pub rest_keeps : Rests state possible a b → Leaves state possible a b (Keeps o)
-  rest_keeps rests = weaker state possible a b (λ p. p ≡ o) (Keeps o) (keeps_same o) (rests o h).1
+  pub rest_keeps : HaveBytes o.slots → Rests state possible a b → Leaves state possible a b (Keeps o)
+  rest_keeps have rests = weaker state possible a b (λ p. p ≡ o) (Keeps o) (λ p. keeps_same o p have) (rests o h).1
 
   pub rest_opens : (r : Opened) → Rests state possible a b → Finds o.slots r → Opens state possible b o r
   rest_opens r rests found = record { now = o; certain = (rests o h).0; beside = refl; reads = found.reads; rests = found.rests }
@@ -282,6 +230,14 @@ module _ {D : Type 0} (state : D → SiteState) (possible : D → ℕ → Held �
 
 -- ---- an opening from its first call on
 
+-- the disk was made certain, and rests from there on
+pub settled_crash : {D : Type 0} (state : D → SiteState) (possible : D → ℕ → Held → Type 0) (a b i : D) → ((o : Held) → (state a).held ≡ Some o → Leaves state possible a b (possible a (state a).moment)) → ((o : Held) → (state a).held ≡ Some o → Certain state possible b o)
+    → Rests state possible b i → (o : Held) → Certain state possible a o → HaveBytes o.slots → Leaves state possible a i (Keeps o)
+settled_crash state possible a b i crash settled rests o h have =
+    and_then state possible a b i (Keeps o)
+    (weaker state possible a b (possible a (state a).moment) (Keeps o) (λ p now. keeps_same o p have (h.only p now)) (crash o h.told))
+    (rest_keeps state possible b i o (settled o h.told) have rests)
+
 module _ {D : Type 0} (state : D → SiteState) (possible : D → ℕ → Held → Type 0) (a b c e f i : D) (crash : (o : Held) → (state a).held ≡ Some o → Leaves state possible a b (possible a (state a).moment)) (settled : (o : Held) → (state a).held ≡ Some o → Certain state possible b o)
     (r1 : Rests state possible b c) (r2 : Rests state possible c e) (r3 : Rests state possible e f) (r4 : Rests state possible f i) where
   pub to_third : Rests state possible b e
@@ -293,10 +249,8 @@ module _ {D : Type 0} (state : D → SiteState) (possible : D → ℕ → Held �
   pub to_last : Rests state possible b i
   to_last = rests_then state possible b f i to_fourth r4
 
-  pub steps_crash : (o : Held) → Certain state possible a o → Leaves state possible a i (Keeps o)
-  steps_crash o h = and_then state possible a b i (Keeps o)
-      (weaker state possible a b (possible a (state a).moment) (Keeps o) (λ p now. keeps_same o p (h.only p now)) (crash o h.told))
-      (rest_keeps state possible b i o (settled o h.told) to_last)
+  pub steps_crash : (o : Held) → Certain state possible a o → HaveBytes o.slots → Leaves state possible a i (Keeps o)
+  steps_crash = settled_crash state possible a b i crash settled to_last
 
   module _ (o : Held) (told : (state a).held ≡ Some o) (first second : Head) (first_len second_len : ℕ)
       (first-len : (o : Held) → Certain state possible b o → first_len ≡ length (slot_of First o.slots))

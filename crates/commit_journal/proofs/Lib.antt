@@ -7,9 +7,10 @@ pub mod RotateLaws
 pub mod ScanLaws
 pub mod OpenLaws
 pub mod FindLaws
-pub mod KeepLaws
+pub mod CountLaws
 pub mod OneReading
 pub mod OneJournal
+pub mod KeepLaws
 pub mod StandingLaws
 pub mod AppendLaws
 pub mod NewLaws

@@ -6,7 +6,7 @@ use Rattle.outside.specs.Holding.{Slots, slot_of, other}
 use Rattle.commit_journal.specs.declared.head.Head.{Head}
 use Rattle.commit_journal.specs.declared.head.Head.TheVariants.{Dead, Faulty, Live}
 use Rattle.commit_journal.specs.Layout.{Placed, head_of, Outcome, Reads, new, faulty, counts, place_of}
-use Rattle.commit_journal.proofs.KeepLaws.{reads_none, reads_counts, dead_at, no_faulty}
+use Rattle.commit_journal.proofs.CountLaws.{reads_none, reads_counts, dead_at, no_faulty}
 use Rattle.commit_journal.proofs.OneReading.{one_batches}
 
 pub record SameJournal (entries others : List Placed) (damaged another : Option (Slot × ℕ)) : Type 0 where

@@ -18,11 +18,14 @@ pub record Finds (slots : Slots) (found : Opened) : Type 0 where
   pub reads : Reads slots found.entries.items found.damaged
   pub rests : found.damaged ≡ None → AtRest found.journal slots (entries_of found.entries.items) []
 
--- what the slots said they say still; the rest stays
+-- what the slots said they say still, and nothing else; none of them is without bytes; the rest stays
 pub record Keeps (o p : Held) : Type 0 where
   pub beside : p.history ≡ o.history
+  pub bytes : HaveBytes p.slots
   pub reads : (entries : List Placed) (damaged : Option (Slot × ℕ)) → Reads o.slots entries damaged
       → Reads p.slots entries damaged
+  pub says : (entries : List Placed) (damaged : Option (Slot × ℕ)) → Reads p.slots entries damaged
+      → Reads o.slots entries damaged
 
 -- An opened journal has what the slots said. Where no place is damaged it is at rest over a certain disk.
 pub record Opens {D : Type 0} (state : D → SiteState) (possible : D → ℕ → Held → Type 0) (d : D) (o : Held)

@@ -4,7 +4,7 @@ ghost use Rattle.std.specs.Prelude.{◌≡◌, ◌^◌, length, IfOk, Some, true
 ghost use Rattle.commit_journal.specs.Causes.{OpenHasCause};
 ghost use Rattle.outside.specs.Calls.{Certain, Leaves, Rests};
 ghost use Rattle.outside.specs.Holding.{Held, slot_of};
-ghost use Rattle.commit_journal.specs.Layout.{head_of};
+ghost use Rattle.commit_journal.specs.Layout.{HaveBytes, head_of};
 ghost use Rattle.commit_journal.specs.declared.head.Head.TheVariants.{Dead};
 ghost use Rattle.commit_journal.specs.Opening.{HeadFits, Keeps, Surveyed};
 
@@ -65,7 +65,8 @@ pub(crate) fn head_at<D: Disk>(
 
 /// Makes both slots certain, and reads their heads.
 pub(crate) fn survey<D: Disk>(alloc: Global, d: &mut D) -> Result<Survey, OpenError>
-    ensures crash { (o : Held) → Certain D.state D.possible d.old o → Leaves D.state D.possible d.old d.new (Keeps o) }
+    ensures crash { (o : Held) → Certain D.state D.possible d.old o → HaveBytes o.slots
+        → Leaves D.state D.possible d.old d.new (Keeps o) }
     ensures found { IfOk result (λ s. (o : Held) → (D.state d.old).held ≡ Some o
         → Surveyed D.state D.possible d.new o s) }
     ensures first { IfOk result (λ s. HeadFits s.first_len s.first) }

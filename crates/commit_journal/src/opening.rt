@@ -124,7 +124,7 @@ fn open_newer<D: Disk>(
     len: u64,
 ) -> Result<Opened, OpenError>
     requires { 11 ≤ len }
-    ensures crash { (o : Held) (w k : ℕ) → Certain D.state D.possible d.old o
+    ensures crash { (o : Held) (w k : ℕ) → Certain D.state D.possible d.old o → HaveBytes o.slots
         → head_of (slot_of slot o.slots) ≡ Live version generation → head_of (slot_of (other slot) o.slots) ≡ Live w k
         → Beats slot generation (Live w k) → Leaves D.state D.possible d.old d.new (Keeps o) }
     ensures opened { IfOk result (λ r. (o : Held) (w k : ℕ) → Certain D.state D.possible d.old o
@@ -148,7 +148,8 @@ fn open_alone<D: Disk>(
     len: u64,
 ) -> Result<Opened, OpenError>
     requires { 11 ≤ len }
-    ensures crash { (o : Held) → Certain D.state D.possible d.old o → Leaves D.state D.possible d.old d.new (Keeps o) }
+    ensures crash { (o : Held) → Certain D.state D.possible d.old o → HaveBytes o.slots
+        → Leaves D.state D.possible d.old d.new (Keeps o) }
     ensures opened { IfOk result (λ r. (o : Held) → Certain D.state D.possible d.old o
         → length (slot_of slot o.slots) ≡ len → head_of (slot_of slot o.slots) ≡ Live version generation
         → head_of (slot_of (other slot) o.slots) ≡ Dead → 1 ≤ length (slot_of (other slot) o.slots)
@@ -314,7 +315,8 @@ pub(crate) fn open_surveyed<D: Disk>(
 
 /// The journal on a disk, with the entries that it has. Where no slot is live a new journal is made in slot 0.
 ///
-/// `Disk` where a disk call failed, `Memory` for want of memory. After either the disk says what it said.
+/// `Disk` where a disk call failed, `Memory` for want of memory. After either, and after a crash at any moment, the
+/// disk says what it said and nothing else, and no slot is without bytes.
 pub fn open<D: Disk>(alloc: Global, d: &mut D) -> Result<Opened, OpenError>
     ensures crash { (o : Held) → Certain D.state D.possible d.old o → HaveBytes o.slots
         → Leaves D.state D.possible d.old d.new (Keeps o) }

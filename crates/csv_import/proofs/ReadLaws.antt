@@ -14,11 +14,11 @@ use Rattle.csv.specs.declared.parser.Terminator.TheVariants as term
 use Rattle.csv.specs.declared.reader.Reader.{Reader}
 use Rattle.csv.specs.declared.reader.Trim.TheVariants as trim
 use Rattle.csv.proofs.ReadFacts.{rows-end, rows-more}
-use Rattle.tier_base.specs.declared.number.TableId.{TableId}
-use Rattle.row_types.specs.declared.column.Column.{Column}
-use Rattle.row_types.specs.declared.rule.Refused.{Refused}
-use Rattle.row_types.specs.declared.rule.Refused.TheVariants as refused
-use Rattle.tier_base.specs.declared.limit.Limit.TheVariants.{Operations}
+use Rattle.evaluator.specs.tier_base.specs.declared.number.TableId.{TableId}
+use Rattle.evaluator.specs.row_types.specs.declared.column.Column.{Column}
+use Rattle.evaluator.specs.row_types.specs.declared.rule.Refused.{Refused}
+use Rattle.evaluator.specs.row_types.specs.declared.rule.Refused.TheVariants as refused
+use Rattle.evaluator.specs.tier_base.specs.declared.limit.Limit.TheVariants.{Operations}
 use Rattle.evaluator.specs.declared.change.Change.{Change}
 use Rattle.evaluator.specs.Rules.{added, limit}
 use Rattle.evaluator.proofs.RuleLaws.{added-assoc, added-nil, nil-added}

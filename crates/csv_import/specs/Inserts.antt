@@ -6,25 +6,25 @@ use Rattle.std.specs.List.{list_all, list_any}
 use Rattle.std.specs.Option.{option_map}
 use Rattle.std.specs.Str.{is_utf8}
 use Rattle.csv.specs.Reading.{default_config, records, strip_bom}
-use Rattle.tier_base.specs.Limits.{greatest}
-use Rattle.tier_base.specs.Names.{spells}
-use Rattle.tier_base.specs.declared.code.Code.TheVariants as code
-use Rattle.tier_base.specs.declared.limit.Limit.TheVariants.{Operations}
-use Rattle.tier_base.specs.declared.number.TableId.{TableId}
-use Rattle.row_types.specs.declared.column.Column.{Column}
-use Rattle.row_types.specs.declared.column.Ty.{Ty}
-use Rattle.row_types.specs.declared.column.Ty.TheVariants as ty
-use Rattle.row_types.specs.declared.rule.Detail.TheVariants as detail
-use Rattle.row_types.specs.declared.rule.Rule.{Rule}
-use Rattle.row_types.specs.declared.rule.Refused.{Refused}
-use Rattle.row_types.specs.declared.rule.Refused.TheVariants as refused
-use Rattle.row_types.specs.declared.value.Value.{Value}
-use Rattle.row_types.specs.declared.value.Value.TheVariants.{Null, Text, Time}
-use Rattle.row_types.specs.Literals.{number_value}
-use Rattle.row_types.specs.TimeTexts.{time_of}
-use Rattle.expressions.specs.declared.expression.Expr.{Expr}
-use Rattle.expressions.specs.declared.expression.Expr.TheVariants.{Literal}
-use Rattle.table_defs.specs.declared.definition.TableDef.{TableDef}
+use Rattle.evaluator.specs.tier_base.specs.Limits.{greatest}
+use Rattle.evaluator.specs.tier_base.specs.Names.{spells}
+use Rattle.evaluator.specs.tier_base.specs.declared.code.Code.TheVariants as code
+use Rattle.evaluator.specs.tier_base.specs.declared.limit.Limit.TheVariants.{Operations}
+use Rattle.evaluator.specs.tier_base.specs.declared.number.TableId.{TableId}
+use Rattle.evaluator.specs.row_types.specs.declared.column.Column.{Column}
+use Rattle.evaluator.specs.row_types.specs.declared.column.Ty.{Ty}
+use Rattle.evaluator.specs.row_types.specs.declared.column.Ty.TheVariants as ty
+use Rattle.evaluator.specs.row_types.specs.declared.rule.Detail.TheVariants as detail
+use Rattle.evaluator.specs.row_types.specs.declared.rule.Rule.{Rule}
+use Rattle.evaluator.specs.row_types.specs.declared.rule.Refused.{Refused}
+use Rattle.evaluator.specs.row_types.specs.declared.rule.Refused.TheVariants as refused
+use Rattle.evaluator.specs.row_types.specs.declared.value.Value.{Value}
+use Rattle.evaluator.specs.row_types.specs.declared.value.Value.TheVariants.{Null, Text, Time}
+use Rattle.evaluator.specs.row_types.specs.Literals.{number_value}
+use Rattle.evaluator.specs.row_types.specs.TimeTexts.{time_of}
+use Rattle.evaluator.specs.expressions.specs.declared.expression.Expr.{Expr}
+use Rattle.evaluator.specs.expressions.specs.declared.expression.Expr.TheVariants.{Literal}
+use Rattle.evaluator.specs.table_defs.specs.declared.definition.TableDef.{TableDef}
 use Rattle.evaluator.specs.declared.change.Action.TheVariants.{Insert}
 use Rattle.evaluator.specs.declared.change.Change.{Change}
 use Rattle.evaluator.specs.Rules.{about, added, limit, then_do}

@@ -3,10 +3,10 @@
 use Rattle.std.specs.Prelude.{◌≡◌, ℕ, ◌+◌, true, List, ◌∷◌, ◌++◌, Result, Ok, Err, drop}
 use Rattle.std.specs.Borrow.{Bor}
 use Rattle.csv.specs.Records.{Row, fields_of}
-use Rattle.row_types.specs.declared.column.Column.{Column}
-use Rattle.row_types.specs.declared.rule.Rule.{Rule}
-use Rattle.row_types.specs.declared.rule.Refused.{Refused}
-use Rattle.row_types.specs.declared.rule.Refused.TheVariants as refused
+use Rattle.evaluator.specs.row_types.specs.declared.column.Column.{Column}
+use Rattle.evaluator.specs.row_types.specs.declared.rule.Rule.{Rule}
+use Rattle.evaluator.specs.row_types.specs.declared.rule.Refused.{Refused}
+use Rattle.evaluator.specs.row_types.specs.declared.rule.Refused.TheVariants as refused
 use Rattle.csv_import.specs.Inserts.{is_record}
 
 -- the fields from a place on begin with this one

@@ -4,8 +4,8 @@ ghost use Rattle.std.specs.Prelude.{◌≡◌, ◌==◌, IfOk};
 ghost use Rattle.std.specs.List.{list_all, list_any};
 ghost use Rattle.csv_import.specs.Inserts.{is_text_byte, plain_text, value_in, value_written, whole_value};
 
-use numbers::Number;
-use row_types::{Text, Time, Ty, Value};
+use evaluator::numbers::Number;
+use evaluator::row_types::{Text, Time, Ty, Value};
 use std::alloc::{AllocError, Global};
 
 /// The value that a field writes for a column of this type, NULL where it has no bytes. None where it writes none.

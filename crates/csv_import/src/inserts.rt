@@ -6,10 +6,10 @@ ghost use Rattle.csv_import.specs.Inserts.{GivesAll, inserts_of, records_in};
 use crate::records::{take_record, wrong_record};
 use csv::ReaderBuilder;
 use evaluator::Change;
-use row_types::Refused;
+use evaluator::row_types::Refused;
+use evaluator::table_defs::TableDef;
+use evaluator::tier_base::TableId;
 use std::alloc::Global;
-use table_defs::TableDef;
-use tier_base::TableId;
 
 /// The INSERTs of a CSV file's records into the table, in their order, each of the whole row. The first record is the
 /// header, which names the columns in their order and in any case. A field without bytes is NULL, and an empty line is

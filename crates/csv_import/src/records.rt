@@ -2,9 +2,9 @@
 
 ghost use Rattle.std.specs.Prelude.{◌≡◌, ◌+◌, ◌-◌, ◌^◌, ◌≤◌, [], IfOk, IfSome, MatchOption, drop, false, vec_items};
 ghost use Rattle.csv.specs.Records.{fields_of};
-ghost use Rattle.row_types.specs.declared.rule.Refused.TheVariants as refused;
-ghost use Rattle.tier_base.specs.declared.code.Code.TheVariants as code;
-ghost use Rattle.tier_base.specs.Names.{spells};
+ghost use Rattle.evaluator.specs.row_types.specs.declared.rule.Refused.TheVariants as refused;
+ghost use Rattle.evaluator.specs.tier_base.specs.declared.code.Code.TheVariants as code;
+ghost use Rattle.evaluator.specs.tier_base.specs.Names.{spells};
 ghost use Rattle.evaluator.specs.Rules.{Gives, about, then_do};
 ghost use Rattle.csv_import.specs.Inserts.{GivesAll, given_by, insert_in, is_record, kept_insert, literal_of, literals_in, name_columns, value_in, wrong_record};
 ghost use Rattle.csv_import.specs.Reading.{BeginsFrom, IsRecord, PutsAll};
@@ -12,12 +12,12 @@ ghost use Rattle.csv_import.specs.Reading.{BeginsFrom, IsRecord, PutsAll};
 use crate::fields::value_in;
 use csv::{ByteRecord, StringRecord};
 use evaluator::building::build_row;
+use evaluator::expressions::{Expr, NoColumns};
 use evaluator::refusing::over_limit;
+use evaluator::row_types::{Column, Detail, Refused, Rule};
+use evaluator::tier_base::{Code, Limit, Name, Seq, TableId};
 use evaluator::{Action, Change};
-use expressions::{Expr, NoColumns};
-use row_types::{Column, Detail, Refused, Rule};
 use std::alloc::{AllocError, Global};
-use tier_base::{Code, Limit, Name, Seq, TableId};
 
 /// Takes the record of a number: the header is number 0, and any other one's INSERT comes behind those before it.
 ///

@@ -40,7 +40,7 @@ use Rattle.stored_tier.proofs.HiddenRows.{hides_later}
 use Rattle.stored_tier.proofs.LongerLaws.{read_longer}
 use Rattle.stored_tier.proofs.StandingLaws.{performed_behind, performed_here}
 use Rattle.dynamic_loads.specs.Bringing.{ReachesInto}
-use Rattle.dynamic_loads.specs.Taking.{GainsRoom, LeavesInstance, TakesInstance, TakesReached}
+use Rattle.dynamic_loads.specs.Taking.{LeavesInstance, TakesInstance, TakesReached}
 use Rattle.dynamic_loads.proofs.FoundRoots.{none_found, root_hidden, told_root}
 use Rattle.dynamic_loads.proofs.RootRows.{Row}
 use Rattle.dynamic_loads.proofs.TakenLaws.{group_seen_at, nothing_found, room_stands, stands_taken}

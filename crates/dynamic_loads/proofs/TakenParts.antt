@@ -20,9 +20,9 @@ use Rattle.stored_tier.proofs.PutLaws.{long_tables}
 use Rattle.stored_tier.proofs.ListLaws.{store_kept}
 use Rattle.stored_tier.proofs.StoreForms.{same_itself}
 use Rattle.stored_tier.proofs.StoreRows.{form_at}
-use Rattle.aging_cycles.specs.Coming.{HaveRowsOf, StayKeyed}
-use Rattle.aging_cycles.specs.Fitting.{AreFit, AreListedFit}
-use Rattle.aging_cycles.proofs.RowsOf.{all_set, listed_fit, rows_alike, rows_put, rows_through}
+use Rattle.group_engine.specs.OfAgingCycles.Coming.{HaveRowsOf, StayKeyed}
+use Rattle.group_engine.specs.OfAgingCycles.Fitting.{AreFit, AreListedFit}
+use Rattle.group_engine.specs.OfAgingCycles.RowsOf.{all_set, listed_fit, rows_alike, rows_put, rows_through}
 use Rattle.dynamic_loads.specs.Taking.{FillsAt, HasPlaceFor, HasPut, IsFilledAt, MayPut, PutsRows, StoreBecomes, TakesWhere, is_viewed}
 use Rattle.dynamic_loads.proofs.ListsSet.{hides_none, same_there}
 use Rattle.dynamic_loads.proofs.RootRows.{Row}

@@ -13,7 +13,7 @@ use Rattle.cache_tier.specs.Groups.{Group, is_read_only}
 use Rattle.cache_tier.specs.Shown.{exceeds}
 use Rattle.stored_tier.specs.declared.tier.Tier.{Tier as Stored}
 use Rattle.stored_tier.specs.Stored.{IsVerified}
-use Rattle.aging_cycles.specs.Fitting.{AreListedFit}
+use Rattle.group_engine.specs.OfAgingCycles.Fitting.{AreListedFit}
 
 -- the instance has its root row, which is past the group's horizon
 abbrev pub is_viewed : Group → Instance → Bool

@@ -4,13 +4,11 @@ ghost use Rattle.std.specs.Prelude.{◌≡◌, ◌≤◌, ◌+◌, IfOk, IsTrue,
 ghost use Rattle.std.specs.FinMap as finite;
 ghost use Rattle.group_catalog.specs.Kept.{group_seen};
 ghost use Rattle.stored_tier.specs.Stored.{IsSound, IsVerified};
-ghost use Rattle.aging_cycles.specs.Fitting.{AreFit};
+ghost use Rattle.group_engine.specs.OfAgingCycles.Fitting.{AreFit};
 ghost use Rattle.dynamic_loads.specs.Taking.{FillsAt, HasPlaceFor, MayPut, PutsRows, TakesReached, TakesWhere, is_viewed};
 
-use aging_cycles::confirming::confirm;
-use aging_cycles::fitting::are_fit;
-use aging_cycles::laws::kept_rows_law;
 use group_catalog::KeptGroup;
+use group_engine::{are_fit, confirm, kept_rows_law};
 use group_store::Store;
 use indexed_rows::Rows;
 use instances::Tree;

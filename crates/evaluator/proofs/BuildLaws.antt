@@ -1,8 +1,8 @@
 -- Laws of the values that columns keep.
 use Rattle.std.proofs.Common.{◌≡◌, Result, Ok, Err, refl}
-use Rattle.tier_base.specs.declared.code.Code.{Code}
-use Rattle.row_types.specs.declared.value.Value.{Value}
-use Rattle.row_types.specs.Columns.{kept_if}
+use Rattle.expressions.specs.tier_base.specs.declared.code.Code.{Code}
+use Rattle.expressions.specs.row_types.specs.declared.value.Value.{Value}
+use Rattle.expressions.specs.row_types.specs.Columns.{kept_if}
 use Rattle.evaluator.specs.Writes.{done}
 
 -- what is kept is what fits

@@ -5,7 +5,7 @@ use Rattle.std.proofs.lemmas.Bool.{ltb-true, ltb-false, le-ltb, lt-ltb}
 use Rattle.std.proofs.lemmas.Grind.{flat_map-append}
 use Rattle.std.proofs.lemmas.List.{length-append, length-take, take_all, take-append-le}
 use Rattle.std.proofs.lemmas.List.Elements.{filter-append}
-use Rattle.indexed_rows.proofs.CopyLaws.{take_at}
+use Rattle.table_state.specs.indexed_rows.proofs.CopyLaws.{take_at}
 use Rattle.evaluator.specs.declared.capped.Capped.{Capped}
 use Rattle.evaluator.specs.Capping.{extended, folded, put}
 

@@ -3,11 +3,11 @@ use Rattle.std.proofs.Common.{◌≡◌, ℕ, zero, suc, ◌-◌, ◌<◌, ◌�
 use Rattle.std.specs.List.{flat_map}
 use Rattle.std.proofs.lemmas.List.{length-map, take_all}
 use Rattle.std.specs.FinMap as fm
-use Rattle.row_types.specs.declared.value.Value.{Value}
-use Rattle.tier_base.specs.declared.number.TableId.{TableId}
+use Rattle.expressions.specs.row_types.specs.declared.value.Value.{Value}
+use Rattle.expressions.specs.tier_base.specs.declared.number.TableId.{TableId}
 use Rattle.table_state.specs.declared.operation.Op.{Op}
 use Rattle.table_state.specs.declared.operation.Op.TheVariants.{Delete}
-use Rattle.indexed_rows.specs.Rows.{Table}
+use Rattle.table_state.specs.indexed_rows.specs.Rows.{Table}
 use Rattle.table_state.specs.Tables.{TableState}
 use Rattle.evaluator.specs.declared.capped.Capped.{Capped}
 use Rattle.evaluator.specs.Capping.{extended, put}

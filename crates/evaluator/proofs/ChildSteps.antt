@@ -7,7 +7,7 @@ use Rattle.std.proofs.lemmas.List.Elements.{filter-append}
 use Rattle.std.proofs.lemmas.Option.{slice_get_within}
 use Rattle.table_state.specs.ScanChildren.{first_from}
 use Rattle.evaluator.specs.declared.capped.Capped.{Capped}
-use Rattle.row_types.specs.declared.rule.Rule.{Rule}
+use Rattle.expressions.specs.row_types.specs.declared.rule.Rule.{Rule}
 use Rattle.evaluator.specs.Capping.{extended}
 use Rattle.evaluator.specs.Rules.{TakenBefore, TakesIn, added, each}
 use Rattle.evaluator.proofs.RuleLaws.{added-nil, nil-added}

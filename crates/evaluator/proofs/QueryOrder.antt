@@ -2,8 +2,8 @@
 use Rattle.std.proofs.Common.{Bool, true, false, List, [], ◌∷◌, Result, Ok, Err, OnOk, drop}
 use Rattle.std.specs.Cmp.{IsTotalOrder}
 use Rattle.std.proofs.lemmas.Cmp.{back_total, on_total, then_total, nat_cmp_total}
-use Rattle.row_types.specs.Order.{order_of}
-use Rattle.row_types.proofs.OrderLaws.{order_total}
+use Rattle.expressions.specs.row_types.specs.Order.{order_of}
+use Rattle.expressions.specs.row_types.proofs.OrderLaws.{order_total}
 use Rattle.evaluator.specs.Queries.{by_values, first_value, way}
 
 way_total : (descending : Bool) → IsTotalOrder (way descending order_of)

@@ -1,9 +1,9 @@
 -- Laws of results that may be a broken rule.
 use Rattle.std.proofs.Common.{◌≡◌, ℕ, zero, suc, ◌+◌, Bool, true, false, cond, ◌&&◌, Some, Result, Ok, Err, List, [], ◌∷◌, ◌++◌, take, drop, slice_get, refl, sym, ap, subst, ◌∙◌, arith, append_assoc}
 use Rattle.std.specs.List.{filter, list_all}
-use Rattle.row_types.specs.declared.rule.Rule.{Rule}
-use Rattle.row_types.specs.declared.rule.Refused.{Refused}
-use Rattle.row_types.specs.declared.rule.Refused.TheVariants as refused
+use Rattle.expressions.specs.row_types.specs.declared.rule.Rule.{Rule}
+use Rattle.expressions.specs.row_types.specs.declared.rule.Refused.{Refused}
+use Rattle.expressions.specs.row_types.specs.declared.rule.Refused.TheVariants as refused
 use Rattle.evaluator.specs.Capping.{folded}
 use Rattle.evaluator.specs.Rules.{TakenBefore, TakesIn, added, each}
 use Rattle.evaluator.proofs.CapLaws.{append-none, folded-append}

@@ -3,19 +3,19 @@ use Rattle.std.proofs.Common.{◌≡◌, ℕ, true, false, Option, Some, None, R
 use Rattle.std.specs.List.{filter}
 use Rattle.std.specs.Option.{option_to_list}
 use Rattle.std.specs.FinMap as fm
-use Rattle.row_types.specs.declared.truth.Truth.{Truth}
-use Rattle.row_types.specs.declared.truth.Truth.TheVariants.{True, False, Unknown}
-use Rattle.row_types.specs.declared.rule.Refused.{Refused}
-use Rattle.row_types.specs.declared.rule.Refused.TheVariants as refused
-use Rattle.row_types.specs.declared.rule.Rule.{Rule}
-use Rattle.row_types.specs.declared.value.Value.{Value}
-use Rattle.tier_base.specs.declared.number.TableId.{TableId}
-use Rattle.tier_base.specs.declared.limit.Limit.TheVariants.{Rows, Operations}
-use Rattle.table_defs.specs.declared.definition.TableDef.{TableDef}
+use Rattle.expressions.specs.row_types.specs.declared.truth.Truth.{Truth}
+use Rattle.expressions.specs.row_types.specs.declared.truth.Truth.TheVariants.{True, False, Unknown}
+use Rattle.expressions.specs.row_types.specs.declared.rule.Refused.{Refused}
+use Rattle.expressions.specs.row_types.specs.declared.rule.Refused.TheVariants as refused
+use Rattle.expressions.specs.row_types.specs.declared.rule.Rule.{Rule}
+use Rattle.expressions.specs.row_types.specs.declared.value.Value.{Value}
+use Rattle.expressions.specs.tier_base.specs.declared.number.TableId.{TableId}
+use Rattle.expressions.specs.tier_base.specs.declared.limit.Limit.TheVariants.{Rows, Operations}
+use Rattle.table_state.specs.table_defs.specs.declared.definition.TableDef.{TableDef}
 use Rattle.table_state.specs.declared.operation.Op.{Op}
 use Rattle.table_state.specs.declared.operation.Op.TheVariants as op
-use Rattle.table_defs.specs.Declarations.{foreign_places}
-use Rattle.indexed_rows.specs.Rows.{Table}
+use Rattle.table_state.specs.table_defs.specs.Declarations.{foreign_places}
+use Rattle.table_state.specs.indexed_rows.specs.Rows.{Table}
 use Rattle.table_state.specs.Tables.{TableState, table_at}
 use Rattle.table_state.specs.ScanChildren.{refers_to}
 use Rattle.table_state.specs.Tables.{fits_columns}

@@ -4,14 +4,14 @@
 use Rattle.std.specs.Prelude.{ℕ, zero, suc, List, [], ◌∷◌, ◌++◌, Option, Some, None, Bool, false, ◌&&◌, ◌==◌, slice_get, if◌then◌else◌, option_to_list}
 use Rattle.std.specs.List.{filter, flat_map}
 use Rattle.std.specs.FinMap.{values}
-use Rattle.row_types.specs.declared.value.Value.{Value}
-use Rattle.tier_base.specs.declared.number.TableId.{TableId}
-use Rattle.table_defs.specs.declared.definition.TableDef.{TableDef}
-use Rattle.table_defs.specs.declared.definition.ForeignKey.{ForeignKey}
+use Rattle.expressions.specs.row_types.specs.declared.value.Value.{Value}
+use Rattle.expressions.specs.tier_base.specs.declared.number.TableId.{TableId}
+use Rattle.table_state.specs.table_defs.specs.declared.definition.TableDef.{TableDef}
+use Rattle.table_state.specs.table_defs.specs.declared.definition.ForeignKey.{ForeignKey}
 use Rattle.table_state.specs.declared.operation.Op.{Op}
 use Rattle.table_state.specs.declared.operation.Op.TheVariants.{Delete}
-use Rattle.table_defs.specs.Names.{table_id}
-use Rattle.indexed_rows.specs.Rows.{key_of}
+use Rattle.table_state.specs.table_defs.specs.Names.{table_id}
+use Rattle.table_state.specs.indexed_rows.specs.Rows.{key_of}
 use Rattle.table_state.specs.Tables.{TableState, table_at}
 use Rattle.table_state.specs.ScanChildren.{refers_to}
 

@@ -9,3 +9,9 @@ pub mod Aggregates
 pub mod Summaries
 pub mod Sums
 pub mod Tallies
+pub use Rattle.expressions.specs.tier_base
+pub use Rattle.expressions.specs.row_types
+pub use Rattle.expressions
+pub use Rattle.table_state.specs.table_defs
+pub use Rattle.table_state.specs.indexed_rows
+pub use Rattle.table_state

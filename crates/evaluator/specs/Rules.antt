@@ -1,13 +1,13 @@
 -- Results that may be a broken rule, and their lists: the first broken rule counts.
 
 use Rattle.std.specs.Prelude.{◌≡◌, ℕ, List, [], ◌∷◌, ◌++◌, Option, Some, None, Result, Ok, Err, drop}
-use Rattle.tier_base.specs.declared.code.Code.{Code}
-use Rattle.tier_base.specs.declared.code.Code.TheVariants as code
-use Rattle.tier_base.specs.declared.limit.Limit.{Limit}
-use Rattle.row_types.specs.declared.rule.Detail.TheVariants as detail
-use Rattle.row_types.specs.declared.rule.Rule.{Rule}
-use Rattle.row_types.specs.declared.rule.Refused.{Refused}
-use Rattle.row_types.specs.declared.rule.Refused.TheVariants as refused
+use Rattle.expressions.specs.tier_base.specs.declared.code.Code.{Code}
+use Rattle.expressions.specs.tier_base.specs.declared.code.Code.TheVariants as code
+use Rattle.expressions.specs.tier_base.specs.declared.limit.Limit.{Limit}
+use Rattle.expressions.specs.row_types.specs.declared.rule.Detail.TheVariants as detail
+use Rattle.expressions.specs.row_types.specs.declared.rule.Rule.{Rule}
+use Rattle.expressions.specs.row_types.specs.declared.rule.Refused.{Refused}
+use Rattle.expressions.specs.row_types.specs.declared.rule.Refused.TheVariants as refused
 use Rattle.evaluator.specs.declared.capped.Capped.{Capped}
 use Rattle.evaluator.specs.Capping.{folded, put}
 

@@ -2,18 +2,18 @@
 
 use Rattle.std.specs.Prelude.{ℕ, List, [], ◌∷◌, Option, Some, None, Bool, false, not, nat_lt, length, Result, Ok, Err, slice_get, if◌then◌else◌}
 use Rattle.std.specs.FinMap.{values, len}
-use Rattle.tier_base.specs.Limits.{greatest}
-use Rattle.tier_base.specs.declared.code.Code.{Code}
-use Rattle.tier_base.specs.declared.code.Code.TheVariants as code
-use Rattle.tier_base.specs.declared.limit.Limit.TheVariants.{Rows, Operations}
-use Rattle.tier_base.specs.declared.number.TableId.{TableId}
-use Rattle.row_types.specs.declared.column.Column.{Column}
-use Rattle.row_types.specs.declared.rule.Rule.{Rule}
-use Rattle.row_types.specs.declared.truth.Truth.{Truth}
-use Rattle.row_types.specs.declared.truth.Truth.TheVariants.{True, False, Unknown}
-use Rattle.row_types.specs.declared.value.Value.{Value}
-use Rattle.row_types.specs.Columns.{stored_in}
-use Rattle.table_defs.specs.declared.definition.TableDef.{TableDef}
+use Rattle.expressions.specs.tier_base.specs.Limits.{greatest}
+use Rattle.expressions.specs.tier_base.specs.declared.code.Code.{Code}
+use Rattle.expressions.specs.tier_base.specs.declared.code.Code.TheVariants as code
+use Rattle.expressions.specs.tier_base.specs.declared.limit.Limit.TheVariants.{Rows, Operations}
+use Rattle.expressions.specs.tier_base.specs.declared.number.TableId.{TableId}
+use Rattle.expressions.specs.row_types.specs.declared.column.Column.{Column}
+use Rattle.expressions.specs.row_types.specs.declared.rule.Rule.{Rule}
+use Rattle.expressions.specs.row_types.specs.declared.truth.Truth.{Truth}
+use Rattle.expressions.specs.row_types.specs.declared.truth.Truth.TheVariants.{True, False, Unknown}
+use Rattle.expressions.specs.row_types.specs.declared.value.Value.{Value}
+use Rattle.expressions.specs.row_types.specs.Columns.{stored_in}
+use Rattle.table_state.specs.table_defs.specs.declared.definition.TableDef.{TableDef}
 use Rattle.table_state.specs.declared.operation.Op.{Op}
 use Rattle.table_state.specs.declared.operation.Op.TheVariants as op
 use Rattle.table_state.specs.Refusals.{is_code}

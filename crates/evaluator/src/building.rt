@@ -1,10 +1,10 @@
 //! Rows made of expressions.
 
 ghost use Rattle.std.specs.Prelude.{◌≡◌, Err, Ok, Some, None, IfOk, option_copied, drop};
-ghost use Rattle.row_types.specs.Columns.{stored_in};
-ghost use Rattle.row_types.specs.declared.value.Value.TheVariants.{Number as NumberOf};
+ghost use Rattle.expressions.specs.row_types.specs.Columns.{stored_in};
+ghost use Rattle.expressions.specs.row_types.specs.declared.value.Value.TheVariants.{Number as NumberOf};
 ghost use Rattle.std.specs.Option.{option_map};
-ghost use Rattle.tier_base.specs.declared.code.Code.TheVariants as code;
+ghost use Rattle.expressions.specs.tier_base.specs.declared.code.Code.TheVariants as code;
 ghost use Rattle.expressions.specs.Expressions.{eval};
 ghost use Rattle.expressions.specs.Operands.{shown};
 ghost use Rattle.table_state.specs.Refusals.{is_code};
@@ -12,11 +12,11 @@ ghost use Rattle.evaluator.specs.Rules.{Gives, unless};
 ghost use Rattle.evaluator.specs.Writes.{built, done, first_refusing, refuses, stored_value, stored_values, values_of};
 
 use crate::refusing::overflow;
+use expressions::numbers::Number;
+use expressions::row_types::{Column, Detail, Refused, Row, Rule, Value, fits, stored};
+use expressions::tier_base::{Code, Name};
 use expressions::{Columns, Expr, Operand, value_of};
-use numbers::Number;
-use row_types::{Column, Detail, Refused, Row, Rule, Value, fits, stored};
 use std::alloc::{AllocError, Global};
-use tier_base::{Code, Name};
 
 /// The row that the columns keep of what the expressions give, one for each column. A number is rounded to its column's
 /// scale, half away from zero.

@@ -3,8 +3,8 @@
 ghost use Rattle.std.specs.Prelude.{◌≡◌, [], false, true, length, nat_lt, OnOk};
 ghost use Rattle.evaluator.specs.Capping.{put};
 
+use expressions::tier_base::Seq;
 use std::alloc::{AllocError, Global};
-use tier_base::Seq;
 
 /// The first elements of a list, and whether there are more than there is room for.
 #[derive(Drop)]

@@ -2,17 +2,17 @@
 
 ghost use Rattle.std.specs.Prelude.{◌≡◌, IfOk, OnOk, option_copied, option_to_list};
 ghost use Rattle.std.specs.List.{flat_map};
-ghost use Rattle.table_defs.specs.Names.{table_id};
+ghost use Rattle.table_state.specs.table_defs.specs.Names.{table_id};
 ghost use Rattle.table_state.specs.declared.operation.Op.TheVariants as op;
 ghost use Rattle.evaluator.specs.Capping.{extended, put};
 ghost use Rattle.evaluator.specs.Cascades.{cascades_from, child_at, children_from, deleted, key_in, referring};
 
 use crate::capped::Capped;
-use row_types::{Key, Row};
+use expressions::row_types::{Key, Row};
+use expressions::tier_base::TableId;
 use std::alloc::{AllocError, Global};
-use table_defs::{ForeignKey, TableDef};
+use table_state::table_defs::{ForeignKey, TableDef};
 use table_state::{Op, Scan, key_of_row};
-use tier_base::TableId;
 
 /// Puts the deletion of a row behind `out`, and before it those of the rows that leave with it by ON DELETE CASCADE.
 /// It goes at most `depth` tables deep.

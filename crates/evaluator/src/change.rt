@@ -3,8 +3,8 @@
 ghost use Rattle.std.specs.Prelude.{◌≡◌, option_copied};
 ghost use Rattle.evaluator.specs.Writes.{filter_of};
 
+use expressions::tier_base::{Seq, TableId};
 use expressions::{Cond, Expr};
-use tier_base::{Seq, TableId};
 
 /// A write of one table, with places in place of names.
 pub struct Change {

@@ -1,11 +1,11 @@
 //! ORDER BY.
 
 ghost use Rattle.std.specs.Prelude.{◌≡◌, OnOk, drop};
-ghost use Rattle.row_types.specs.Order.{order_of};
+ghost use Rattle.expressions.specs.row_types.specs.Order.{order_of};
 ghost use Rattle.evaluator.specs.Queries.{IsOrdered, by_values, first_value, way};
 
 use crate::plan::Found;
-use row_types::{Value, order};
+use expressions::row_types::{Value, order};
 use std::alloc::AllocError;
 use std::cmp::Ordering;
 

@@ -1,8 +1,8 @@
 //! Queries with places in place of names.
 
+use expressions::row_types::Row;
+use expressions::tier_base::{Seq, TableId};
 use expressions::{Cond, Expr};
-use row_types::Row;
-use tier_base::{Seq, TableId};
 
 /// A query with places in place of names. A place is one in the rows of the FROM tables side by side.
 pub struct Plan {

@@ -1,11 +1,11 @@
 //! Refusals.
 
 ghost use Rattle.std.specs.Prelude.{◌≡◌, Err, Ok, Some, None};
-ghost use Rattle.row_types.specs.declared.rule.Refused.TheVariants as refused;
+ghost use Rattle.expressions.specs.row_types.specs.declared.rule.Refused.TheVariants as refused;
 ghost use Rattle.evaluator.specs.Rules.{limit as limit_rule, no_table, overflow};
 
-use row_types::{Detail, Refused, Rule};
-use tier_base::{Code, Limit};
+use expressions::row_types::{Detail, Refused, Rule};
+use expressions::tier_base::{Code, Limit};
 
 /// 120: a number leaves 64 signed bits.
 pub fn overflow() -> Refused

@@ -17,11 +17,11 @@ use crate::key_path::{selected_key, selected_parent};
 use crate::looking::selects;
 use crate::refusing::{over_limit, overflow, unknown_table};
 use expressions::NoColumns;
-use row_types::{Key, Refused, Row, Truth};
+use expressions::row_types::{Key, Refused, Row, Truth};
+use expressions::tier_base::{Limit, TableId};
 use std::alloc::Global;
-use table_defs::TableDef;
+use table_state::table_defs::TableDef;
 use table_state::{Op, Ops, Scan};
-use tier_base::{Limit, TableId};
 
 /// The operations of a write, on its selected rows in key order. An update's expressions are read on the old row, and
 /// a deletion stands behind those of the rows that leave with it by ON DELETE CASCADE. `room` is how many operations

@@ -3,9 +3,9 @@
 
 use Rattle.std.specs.Prelude.{◌≡◌, List, Option, Some, None, slice_get, unwrap_or}
 use Rattle.std.specs.Option.{option_map}
-use Rattle.numbers.specs.Arithmetic.{difference_of, product_of, sum_of}
-use Rattle.numbers.specs.Decimals.{Decimal}
-use Rattle.tier_base.specs.declared.code.Code.TheVariants as code
+use Rattle.row_types.specs.numbers.specs.Arithmetic.{difference_of, product_of, sum_of}
+use Rattle.row_types.specs.numbers.specs.Decimals.{Decimal}
+use Rattle.row_types.specs.tier_base.specs.declared.code.Code.TheVariants as code
 use Rattle.row_types.specs.declared.rule.Detail.TheVariants as detail
 use Rattle.row_types.specs.declared.rule.Refused.{Refused}
 use Rattle.row_types.specs.declared.rule.Refused.TheVariants.{Rule, Memory}

@@ -3,8 +3,8 @@
 
 use Rattle.std.specs.Prelude.{List, [], ◌∷◌, Option, Some, None, Bool, true, false, ◌&&◌, if◌then◌else◌, Result, Ok, Err, slice_get}
 use Rattle.std.specs.Result.{is_ok}
-use Rattle.tier_base.specs.declared.code.Code.{Code}
-use Rattle.tier_base.specs.declared.code.Code.TheVariants.{TypeMismatch}
+use Rattle.row_types.specs.tier_base.specs.declared.code.Code.{Code}
+use Rattle.row_types.specs.tier_base.specs.declared.code.Code.TheVariants.{TypeMismatch}
 use Rattle.row_types.specs.declared.column.Ty.{Ty}
 use Rattle.row_types.specs.declared.column.Ty.TheVariants as ty
 use Rattle.row_types.specs.declared.value.Value.{Value}

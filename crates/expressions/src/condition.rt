@@ -10,9 +10,9 @@ ghost use Rattle.expressions.specs.Operands.{shown};
 use crate::columns::Columns;
 use crate::expression::{Expr, value_of};
 use crate::operand::Operand;
+use row_types::tier_base::{Code, Seq};
 use row_types::{Detail, Refused, Row, Rule, Truth, Value};
 use std::cmp::Ordering;
-use tier_base::{Code, Seq};
 
 /// A comparison operator.
 #[derive(Clone, Copy, Debug, PartialEq, Eq)]

@@ -8,10 +8,10 @@ ghost use Rattle.expressions.specs.Operands.{shown};
 
 use crate::columns::Columns;
 use crate::operand::Operand;
-use numbers::Number;
+use row_types::numbers::Number;
+use row_types::tier_base::Code;
 use row_types::{Detail, Refused, Row, Rule, Value};
 use std::alloc::Global;
-use tier_base::Code;
 
 /// An operation of arithmetic.
 #[derive(Clone, Copy, Debug, PartialEq, Eq)]

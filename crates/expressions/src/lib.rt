@@ -11,4 +11,6 @@ pub use columns::{Columns, NoColumns};
 pub use condition::{Comparator, Cond, holds, truth_on};
 pub use expression::{Arithmetic, Expr, eval, value_of};
 pub use operand::Operand;
+pub use row_types;
+pub use row_types::{numbers, tier_base};
 pub use typing::{Family, family_of, family_of_type, has_sound_types, is_numeric, suits};

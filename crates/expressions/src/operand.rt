@@ -4,7 +4,7 @@ ghost use Rattle.std.specs.Prelude.{◌≡◌, IfOk};
 ghost use Rattle.row_types.specs.Order.{value_order};
 ghost use Rattle.expressions.specs.Operands.{shown};
 
-use numbers::Number;
+use row_types::numbers::Number;
 use row_types::{Value, value_order};
 use std::alloc::{AllocError, Global};
 use std::cmp::Ordering;

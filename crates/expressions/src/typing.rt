@@ -5,8 +5,8 @@ ghost use Rattle.expressions.specs.Types.{agrees, all_agree, family_of, family_o
 
 use crate::condition::Cond;
 use crate::expression::Expr;
+use row_types::tier_base::Code;
 use row_types::{Ty, Value};
-use tier_base::Code;
 
 /// A family of types. Values of one family can be compared.
 #[derive(Clone, Copy, Debug, PartialEq, Eq)]

@@ -2,7 +2,6 @@
 use Rattle.std.proofs.Common.{◌≡◌, ◌∙◌, ℕ, ap, get_or, subst, sym}
 use lib.Seq.{set-get_or}
 use Rattle.std.specs.Prelude.{slice_set}
-use Rattle.std.specs.Global.{Vec}
 use Rattle.std.specs.Vec.{with_item}
 use Rattle.std.specs.formers.vec.Vec.{holding_along}
 use Rattle.group_catalog.specs.declared.catalog.Catalog.{Catalog}

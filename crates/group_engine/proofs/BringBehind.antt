@@ -1,23 +1,17 @@
 -- A READONLY group is refreshed with its set, whose rows were read, and gains the instance that a statement wants.
-use Rattle.std.proofs.Common.{◌≡◌, ◌≤◌, ℕ, Bool, true, false, cond, not, ◌&&◌, ◌||◌, Option, Some, None, List, [], ◌∷◌, ◌++◌, filter, map, slice_get, refl, sym, ap, subst, ◌∙◌, inl, inr}
-use Rattle.std.specs.Prelude.{Ok, Err}
+use Rattle.std.proofs.Common.{◌≡◌, ℕ, Bool, true, false, cond, not, ◌&&◌, ◌||◌, Option, Some, None, List, [], ◌∷◌, ◌++◌, filter, slice_get, refl, sym, ap, subst, ◌∙◌, inl, inr}
+use Rattle.std.specs.Prelude.{Ok}
 use Rattle.std.specs.FinMap as fm
 use Rattle.tier_base.specs.declared.code.Code.TheVariants as code
-use Rattle.tier_base.specs.declared.number.TableId.{TableId}
 use Rattle.tier_base.specs.declared.limit.Limit.TheVariants as limit
 use Rattle.row_types.specs.declared.value.Value.{Value}
 use Rattle.sql_subset.specs.declared.stmt.RefreshState.TheVariants.{On}
 use Rattle.indexed_rows.specs.Rows.{Table}
-use Rattle.table_state.specs.Tables.{TableState, table_at}
-use Rattle.instances.specs.declared.tree.Child.{Child}
-use Rattle.instances.specs.Roots.{root_of}
+use Rattle.table_state.specs.Tables.{TableState}
 use Rattle.outside.specs.Calls as site
-use Rattle.outside.specs.Console.{TakesSnapshot}
 use Rattle.outside.specs.Holding.{Held}
 use Rattle.outside.specs.Sites.{SiteState}
-use Rattle.outside.specs.declared.fault.BankError.{BankError}
 use Rattle.outside.specs.declared.fault.BankError.TheVariants.{Memory}
-use Rattle.outside.specs.declared.site.Snapshot.{Snapshot}
 use Rattle.propagators.specs.Certainty.{KeepsCertain}
 use Rattle.tier_journal.specs.KeptOver.{DiskIsCaused, KeepsOver, is_broken, over_disk}
 use Rattle.tier_journal.specs.declared.journal.TierJournal.{TierJournal}
@@ -33,22 +27,21 @@ use Rattle.cache_tier.specs.Events.{with_tier}
 use Rattle.cache_tier.specs.Groups.{Group, is_key, is_paused, is_read_only, with_keys}
 use Rattle.cache_tier.specs.Journals.{SetsState}
 use Rattle.cache_tier.specs.JournalSteps.{FlushesSome}
-use Rattle.cache_tier.specs.Reading.{TellsPosition, backing_at, state_or_none}
+use Rattle.cache_tier.specs.Reading.{backing_at, state_or_none}
 use Rattle.cache_tier.specs.Rules.{past}
 use Rattle.cache_tier.specs.Sets.{OnePosition, alone, at_position, changed_from, is_in_view, of_set}
 use Rattle.cache_tier.specs.Targets.{has_flag, load_entries}
 use Rattle.cache_tier.specs.TierStates.{Tier}
 use Rattle.cache_tier.specs.Wants.{Want}
-use Rattle.cache_tier.specs.Worlds.{BankCall, Becomes, IsUnshared, ThenStage, World, bank_fault, faulty, only}
+use Rattle.cache_tier.specs.Worlds.{Becomes, ThenStage, World, faulty, only}
 use Rattle.cache_tier.proofs.KeyListLaws.{key_left}
 use Rattle.stored_tier.specs.declared.refreshing.Made.{Made}
 use Rattle.stored_tier.specs.declared.tier.Tier.{Tier as Stored}
 use Rattle.stored_tier.specs.Filling.{is_held}
 use Rattle.stored_tier.specs.Performing.{IsPerformedOver, StandsFor}
 use Rattle.stored_tier.specs.Refreshing.{is_filled}
-use Rattle.stored_tier.specs.Sites.{IsAt}
 use Rattle.stored_tier.specs.Stored.{IsSound, IsStoredAs, without_list}
-use Rattle.stored_tier.proofs.ListLaws.{group_kept, hidden_kept, hiding_there, store_kept, stored_keys}
+use Rattle.stored_tier.proofs.ListLaws.{group_kept, hidden_kept, store_kept, stored_keys}
 use Rattle.stored_tier.proofs.OverLaws.{at_written, keeps_called, keeps_tier, stands_written}
 use Rattle.group_engine.specs.declared.ready.Ready.{Ready}
 use Rattle.group_engine.specs.Bringing.{BringsNoted, FindsRoot, found_in}
@@ -56,17 +49,14 @@ use Rattle.group_engine.specs.Fresh.{AreGained, IsRead}
 use Rattle.group_engine.specs.Gaining.{IsStoredAt}
 use Rattle.group_engine.specs.Loaded.{IsDynamicAt}
 use Rattle.group_engine.specs.Ready.{IsReadyFor, WritesReady, is_full_ready}
-use Rattle.group_engine.proofs.BringRoots.{found_from, found_keys, found_past, found_same, root_copied}
+use Rattle.group_engine.proofs.BringRoots.{found_keys, found_past, found_same}
 use Rattle.group_engine.proofs.ChangedLists.{changed_at}
 use Rattle.group_engine.proofs.DynamicLaws.{grown_flagged, grown_joined, grown_mapped, grows, joined_reads, rows_apart}
-use Rattle.group_engine.proofs.FillLaws.{first_one}
 use Rattle.group_engine.proofs.FreshGroup.{GainChanges, GainsOnly}
 use Rattle.group_engine.proofs.FreshLaws.{IsRefreshed, gained_behind, groups_behind, tier_behind}
 use Rattle.group_engine.proofs.FreshLists.{filter_same, more_is, more_keys}
 use Rattle.group_engine.proofs.GroupRows.{same_there}
-use Rattle.group_engine.proofs.ReadLaws.{ReadsState, gained_read, read_here, reads_state}
 use Rattle.group_engine.proofs.ReadyLaws.{breaks, full_ready, full_stage}
-use Rattle.group_engine.proofs.TakenLaws.{no_call}
 use Rattle.group_engine.proofs.WholeLaws.{alone_two, chosen_there, loads_group}
 
 abbrev Row : Type 0

@@ -1,5 +1,5 @@
 -- A READONLY group is refreshed with its set by what changed, and gains the instance that a statement wants.
-use Rattle.std.proofs.Common.{◌≡◌, ℕ, Bool, true, false, ◌&&◌, ◌||◌, nat_eq, Option, Some, None, List, length, slice_get, refl, sym, ap, subst, ◌∙◌, eqb-true}
+use Rattle.std.proofs.Common.{◌≡◌, ℕ, Bool, true, false, ◌&&◌, ◌||◌, Option, Some, None, List, slice_get, refl, sym, ap, subst, ◌∙◌, eqb-true}
 use Rattle.std.specs.Prelude.{Ok}
 use Rattle.std.specs.FinMap as fm
 use Rattle.row_types.specs.declared.value.Value.{Value}
@@ -20,7 +20,7 @@ use Rattle.cache_tier.specs.Sets.{Choice, of_set}
 use Rattle.cache_tier.specs.Targets.{load_entries}
 use Rattle.cache_tier.specs.Wants.{Want}
 use Rattle.cache_tier.specs.Worlds.{World}
-use Rattle.changed_sets.specs.Gains.{AreGainedBy, gained_keys, keys_found}
+use Rattle.changed_sets.specs.Gains.{AreGainedBy, keys_found}
 use Rattle.stored_tier.specs.declared.refreshing.Made.{Made}
 use Rattle.stored_tier.specs.declared.tier.Tier.{Tier as Stored}
 use Rattle.stored_tier.specs.Performing.{IsPerformedOver}

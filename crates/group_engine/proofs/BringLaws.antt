@@ -1,5 +1,5 @@
 -- A READONLY group is refreshed with its set, and gains the instance that a statement wants.
-use Rattle.std.proofs.Common.{◌≡◌, ◌≤◌, ℕ, Bool, true, false, cond, not, ◌&&◌, ◌||◌, Option, Some, None, List, [], ◌∷◌, ◌++◌, filter, map, slice_get, refl, sym, ap, subst, ◌∙◌, inl, inr}
+use Rattle.std.proofs.Common.{◌≡◌, ◌≤◌, ℕ, true, false, Option, Some, None, List, map, slice_get, refl, sym, ap, ◌∙◌}
 use Rattle.std.specs.Prelude.{Ok, Err}
 use Rattle.std.specs.FinMap as fm
 use Rattle.tier_base.specs.declared.code.Code.TheVariants as code
@@ -8,7 +8,7 @@ use Rattle.tier_base.specs.declared.limit.Limit.TheVariants as limit
 use Rattle.row_types.specs.declared.value.Value.{Value}
 use Rattle.sql_subset.specs.declared.stmt.RefreshState.TheVariants.{On}
 use Rattle.indexed_rows.specs.Rows.{Table}
-use Rattle.table_state.specs.Tables.{TableState, table_at}
+use Rattle.table_state.specs.Tables.{table_at}
 use Rattle.instances.specs.declared.tree.Child.{Child}
 use Rattle.instances.specs.Roots.{root_of}
 use Rattle.outside.specs.Calls as site
@@ -19,37 +19,30 @@ use Rattle.outside.specs.declared.fault.BankError.{BankError}
 use Rattle.outside.specs.declared.fault.BankError.TheVariants.{Memory}
 use Rattle.outside.specs.declared.site.Snapshot.{Snapshot}
 use Rattle.propagators.specs.Certainty.{KeepsCertain}
-use Rattle.tier_journal.specs.KeptOver.{DiskIsCaused, KeepsOver, is_broken, over_disk}
+use Rattle.tier_journal.specs.KeptOver.{DiskIsCaused, KeepsOver}
 use Rattle.tier_journal.specs.declared.journal.TierJournal.{TierJournal}
 use Rattle.tier_journal.proofs.WayLaws.{kept_unless}
-use Rattle.order_laws.proofs.TruthLaws.{both_true, never_both}
 use Rattle.slot_rows.specs.SlotKeys.{RowsHeld}
 use Rattle.group_catalog.specs.Catalogs.{groups_in}
 use Rattle.group_store.specs.Stores.{Kept}
 use Rattle.cache_tier.specs.declared.reply.Last.TheVariants.{No}
 use Rattle.cache_tier.specs.declared.reply.Reply.{Reply}
-use Rattle.cache_tier.specs.DynamicLoads.{found_root, joined_tier, state_entries, state_loaded, with_found}
-use Rattle.cache_tier.specs.Events.{with_tier}
-use Rattle.cache_tier.specs.Groups.{Group, is_key, is_paused, is_read_only, with_keys}
-use Rattle.cache_tier.specs.Journals.{SetsState}
-use Rattle.cache_tier.specs.JournalSteps.{FlushesSome}
-use Rattle.cache_tier.specs.Reading.{TellsPosition, backing_at, state_or_none}
+use Rattle.cache_tier.specs.Groups.{Group, is_read_only}
+use Rattle.cache_tier.specs.Reading.{TellsPosition}
 use Rattle.cache_tier.specs.Rules.{past}
-use Rattle.cache_tier.specs.Sets.{OnePosition, alone, at_position, changed_from, is_in_view, of_set}
-use Rattle.cache_tier.specs.Targets.{has_flag, load_entries}
+use Rattle.cache_tier.specs.Sets.{of_set}
+use Rattle.cache_tier.specs.Targets.{load_entries}
 use Rattle.cache_tier.specs.TierStates.{Tier}
 use Rattle.cache_tier.specs.Wants.{Want}
-use Rattle.cache_tier.specs.Worlds.{BankCall, Becomes, IsUnshared, ThenStage, World, bank_fault, faulty, only}
-use Rattle.cache_tier.proofs.KeyListLaws.{key_left}
+use Rattle.cache_tier.specs.Worlds.{BankCall, IsUnshared, World, bank_fault, faulty, only}
 use Rattle.stored_tier.specs.declared.refreshing.Made.{Made}
 use Rattle.stored_tier.specs.declared.tier.Tier.{Tier as Stored}
-use Rattle.stored_tier.specs.Filling.{is_held}
 use Rattle.stored_tier.specs.Performing.{IsPerformedOver, StandsFor}
 use Rattle.stored_tier.specs.Refreshing.{is_filled}
 use Rattle.stored_tier.specs.Sites.{IsAt}
-use Rattle.stored_tier.specs.Stored.{IsSound, without_list}
-use Rattle.stored_tier.proofs.ListLaws.{group_kept, hidden_kept, hiding_there, store_kept, stored_keys}
-use Rattle.stored_tier.proofs.OverLaws.{at_written, keeps_called, keeps_tier, stands_written}
+use Rattle.stored_tier.specs.Stored.{IsSound}
+use Rattle.stored_tier.proofs.ListLaws.{hiding_there}
+use Rattle.stored_tier.proofs.OverLaws.{keeps_called}
 use Rattle.group_engine.specs.declared.ready.Ready.{Ready}
 use Rattle.group_engine.specs.Bringing.{BringsNoted, FindsRoot, IsBrought, found_in, found_row, found_under}
 use Rattle.group_engine.proofs.BringBehind.{done_behind, full_behind, wanting_behind}
@@ -57,18 +50,12 @@ use Rattle.group_engine.specs.Fresh.{AreGained, IsRead}
 use Rattle.group_engine.specs.Gaining.{IsStoredAt}
 use Rattle.group_engine.specs.Loaded.{IsDynamicAt}
 use Rattle.group_engine.specs.Ready.{IsReadyFor, WritesReady, is_full_ready}
-use Rattle.group_engine.proofs.BringRoots.{found_from, found_keys, found_past, found_same, root_copied}
-use Rattle.group_engine.proofs.ChangedLists.{changed_at}
-use Rattle.group_engine.proofs.DynamicLaws.{grown_flagged, grown_joined, grown_mapped, grows, joined_reads, rows_apart}
+use Rattle.group_engine.proofs.BringRoots.{found_from, root_copied}
 use Rattle.group_engine.proofs.FillLaws.{first_one}
-use Rattle.group_engine.proofs.FreshGroup.{GainChanges, GainsOnly}
-use Rattle.group_engine.proofs.FreshLaws.{IsRefreshed, gained_behind, groups_behind, tier_behind}
-use Rattle.group_engine.proofs.FreshLists.{filter_same, more_is, more_keys}
-use Rattle.group_engine.proofs.GroupRows.{same_there}
+use Rattle.group_engine.proofs.FreshLaws.{IsRefreshed}
 use Rattle.group_engine.proofs.ReadLaws.{ReadsState, gained_read, read_here, reads_state}
-use Rattle.group_engine.proofs.ReadyLaws.{breaks, full_ready, full_stage}
 use Rattle.group_engine.proofs.TakenLaws.{no_call}
-use Rattle.group_engine.proofs.WholeLaws.{alone_two, chosen_there, loads_group}
+use Rattle.group_engine.proofs.WholeLaws.{chosen_there, loads_group}
 
 abbrev Row : Type 0
 Row = List Value

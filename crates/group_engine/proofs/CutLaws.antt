@@ -5,7 +5,7 @@ use Rattle.indexed_rows.specs.Rows.{is_same}
 use Rattle.recency.specs.Rings.{keys_without}
 use Rattle.group_store.specs.Stores.{Kept, SameButSpare, cut_store}
 use Rattle.group_store.specs.Trees.{cut_from}
-use Rattle.aging_cycles.specs.Running.{cut_all}
+use Rattle.changed_sets.specs.OfAgingCycles.Running.{cut_all}
 use Rattle.group_engine.proofs.GroupingLaws.{got, take_one}
 
 -- one element more, or none

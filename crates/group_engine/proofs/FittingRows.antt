@@ -15,11 +15,11 @@ use Rattle.table_state.specs.Operations.{applied, applied_all, table_of}
 use Rattle.table_state.specs.Sound.{HasFittingRows}
 use Rattle.table_state.specs.Tables.{TableState, fits_columns, table_at}
 use Rattle.table_state.proofs.AppliedLaws.{inserted, updated}
-use Rattle.table_state.proofs.IndependenceLaws.{entry_whole, stays_whole}
+use Rattle.table_state.proofs.IndependenceLaws.{entry_whole}
 use Rattle.order_laws.specs.Effects.{row_at, row_left_by}
 use Rattle.order_laws.proofs.CountLaws.{rows_later}
 use Rattle.order_laws.proofs.StepLaws.{Applies, key_in, parts, row_after, same_schema}
-use Rattle.order_laws.proofs.TruthLaws.{both_true, same_some}
+use Rattle.order_laws.proofs.TruthLaws.{both_true}
 use Rattle.std.specs.Option.{option_and_then, option_map}
 use Rattle.row_types.specs.Order.{key_order}
 use Rattle.table_state.specs.Histories.{after_entry, entry_of, state_at, state_from, state_of}
@@ -42,9 +42,9 @@ use Rattle.stored_tier.specs.Lists.{hides_keys, view_roots}
 use Rattle.stored_tier.specs.Performing.{StandsFor}
 use Rattle.stored_tier.specs.Stored.{IsSound, without_list}
 use Rattle.stored_tier.proofs.StoreRows.{form_here}
-use Rattle.aging_cycles.proofs.Behind.{behind}
-use Rattle.aging_cycles.proofs.RootRows.{nothing_kept}
-use Rattle.aging_cycles.proofs.Shows.{keyed, roots_are, store_root}
+use Rattle.changed_sets.specs.OfAgingCycles.Behind.{behind}
+use Rattle.changed_sets.specs.OfAgingCycles.RootRows.{nothing_kept}
+use Rattle.changed_sets.specs.OfAgingCycles.Shows.{keyed, roots_are, store_root}
 use Rattle.group_engine.specs.UnloadNamed.{FitsFor}
 
 abbrev Row : Type 0

@@ -25,7 +25,7 @@ use Rattle.stored_tier.specs.Choosing.{chosen, matches_at}
 use Rattle.stored_tier.specs.Performing.{StandsFor}
 use Rattle.stored_tier.specs.Stored.{IsSound}
 use Rattle.stored_tier.proofs.GatherLaws.{entries_kept}
-use Rattle.aging_cycles.proofs.Shows.{roots_are}
+use Rattle.changed_sets.specs.OfAgingCycles.Shows.{roots_are}
 use Rattle.group_engine.specs.Taking.{IsOfTarget}
 use Rattle.group_engine.specs.Unloading.{leaving}
 use Rattle.group_engine.proofs.MatchLaws.{retain_alike}

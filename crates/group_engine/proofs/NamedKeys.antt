@@ -29,7 +29,7 @@ use Rattle.cache_tier.specs.Conditions.{same_value}
 use Rattle.group_catalog.specs.Identified.{are_equal, is_given}
 use Rattle.group_catalog.specs.declared.which.ResolvedWhich.{ResolvedWhich}
 use Rattle.group_store.specs.Stores.{Kept, SameButSpare}
-use Rattle.aging_cycles.specs.Running.{cut_all}
+use Rattle.changed_sets.specs.OfAgingCycles.Running.{cut_all}
 use Rattle.stored_tier.specs.Choosing.{chosen, matches_at}
 use Rattle.group_engine.specs.Unloading.{IsCutBy, leaving}
 use Rattle.group_engine.specs.UnloadNamed.{FitsFor, FitsUnder, NamesKey, NamesValue}

@@ -15,7 +15,7 @@ use Rattle.group_catalog.specs.declared.which.ResolvedWhich.{ResolvedWhich}
 use Rattle.cache_tier.specs.declared.reply.Reply.{Reply}
 use Rattle.cache_tier.specs.Groups.{Group, is_explicit, is_read_only}
 use Rattle.cache_tier.specs.Reading.{FollowsAt, TellsPosition}
-use Rattle.cache_tier.specs.Sets.{alone, loaded_with, of_set, set_tried}
+use Rattle.cache_tier.specs.Sets.{alone, loaded_with, of_set}
 use Rattle.cache_tier.specs.Targets.{Settles, Target, load_entries, whole_answer}
 use Rattle.cache_tier.specs.TierStates.{refresh_tried}
 use Rattle.cache_tier.specs.Worlds.{Part, Tries, World}

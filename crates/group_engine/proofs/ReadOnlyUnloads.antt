@@ -1,5 +1,5 @@
 -- What UNLOAD makes of a READONLY group that is loaded whole: it shows nothing then, and no session has locks in it.
-use Rattle.std.proofs.Common.{◌≡◌, ℕ, zero, suc, ◌+◌, Bool, true, false, cond, not, ◌&&◌, ◌||◌, inl, nat_eq, Option, Some, None, is_some, is_none, List, [], ◌∷◌, ◌++◌, find, length, map, slice_get, unwrap_or, refl, sym, ap, subst, ◌∙◌, arith, eqb-true}
+use Rattle.std.proofs.Common.{◌≡◌, ℕ, zero, suc, ◌+◌, Bool, true, false, cond, not, ◌&&◌, ◌||◌, inl, nat_eq, Option, Some, None, is_some, List, [], ◌∷◌, find, length, slice_get, unwrap_or, refl, sym, ap, subst, ◌∙◌, arith, eqb-true}
 use Rattle.std.specs.Option.{option_map}
 use Rattle.std.specs.List.{flat_map, list_all, list_any}
 use Rattle.std.proofs.lemmas.List.Folds.{list_any-append}

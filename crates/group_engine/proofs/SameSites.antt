@@ -1,11 +1,10 @@
 -- A site of which all that is known stayed.
-use Rattle.std.proofs.Common.{◌≡◌, ◌≤◌, ℕ, Option, Some, inl, sym, subst, ap, refl, ◌∙◌}
+use Rattle.std.proofs.Common.{◌≡◌, ◌≤◌, ℕ, Option, inl, sym, subst, ap, refl, ◌∙◌}
 use Rattle.outside.specs.Calls.{Certain, OnlyLooks}
 use Rattle.outside.specs.Holding.{Held}
 use Rattle.outside.specs.Sites.{SiteState}
 use Rattle.propagators.specs.Certainty.{KeepsCertain}
 use Rattle.propagators.proofs.CertainLaws.{certain_then, no_longer}
-use Rattle.tier_journal.specs.KeptOver.{KeepsOver}
 use Rattle.tier_journal.specs.declared.journal.TierJournal.{TierJournal}
 use Rattle.cache_tier.specs.Wants.{Want}
 use Rattle.cache_tier.specs.Worlds.{World}

@@ -56,11 +56,11 @@ use Rattle.stored_tier.proofs.HiddenRows.{SameView, hides_changed}
 use Rattle.stored_tier.proofs.ListLaws.{hidden_long, hides_there, hiding_defined, hiding_long, kept_long, listed_same, stores_long}
 use Rattle.group_engine.proofs.GroupRows.{same_there}
 use Rattle.group_engine.proofs.ListsKept.{hides_none, hiding_set, listed_set, unhidden, writes_hides}
-use Rattle.aging_cycles.proofs.KeyLists.{cut_keys}
+use Rattle.changed_sets.specs.OfAgingCycles.KeyLists.{cut_keys}
 use Rattle.group_engine.proofs.UnloadLists.{gone_is, shrunk_listed, without_alike}
 use Rattle.cache_tier.proofs.GroupTables.{read_only_not}
 use Rattle.cache_tier.proofs.LoadLaws.{unload_keys}
-use Rattle.aging_cycles.specs.Running.{cut_all}
+use Rattle.changed_sets.specs.OfAgingCycles.Running.{cut_all}
 use Rattle.group_engine.specs.Unloading.{AimsUnloadIn, FindsUnload, IsClearedAt, IsClearedGroup, IsCutBy, IsCutAt, IsCutGroup, LeavesGroup, UnloadsHere, UnloadsReady, UnloadsTarget, flagged, leaving}
 use Rattle.group_engine.specs.UnloadLocks.{UnloadTold}
 use Rattle.group_engine.specs.UnloadNamed.{FitsFor, FitsUnder}

@@ -32,7 +32,7 @@ use Rattle.group_catalog.specs.declared.which.ResolvedWhich.{ResolvedWhich}
 use Rattle.group_store.specs.Stores.{Kept}
 use Rattle.order_laws.proofs.TruthLaws.{both_true}
 use Rattle.tier_statements.specs.Seen.{session_seen}
-use Rattle.cache_tier.specs.Conditions.{overflow_fault, overflows}
+use Rattle.cache_tier.specs.Conditions.{overflow_fault}
 use Rattle.cache_tier.specs.Facts.{OverIsApplied}
 use Rattle.cache_tier.specs.Groups.{Group, is_writethrough}
 use Rattle.cache_tier.specs.Locks.{has_writes_in, instance_lock, instance_rows, locked_by}
@@ -42,7 +42,7 @@ use Rattle.cache_tier.specs.Targets.{Target}
 use Rattle.cache_tier.specs.TierStates.{Session, is_labelled}
 use Rattle.cache_tier.specs.UnloadSteps.{matching_shown, unload_fault}
 use Rattle.cache_tier.specs.Worlds.{World}
-use Rattle.cache_tier.specs.StandingBetween.{IsCatalogued, Stands}
+use Rattle.cache_tier.specs.StandingBetween.{IsCatalogued}
 use Rattle.cache_tier.proofs.ChosenGroups.{each_at}
 use Rattle.cache_tier.proofs.UnloadStatements.{none_written}
 use Rattle.group_engine.specs.declared.aiming.Aim.{Aim}

@@ -3,26 +3,22 @@ use Rattle.std.proofs.Common.{◌≡◌, ◌+◌, ◌<◌, ◌≤◌, ℕ, zero,
 use Rattle.std.proofs.lemmas.Bool.Decides.{eqb_tells}
 use Rattle.std.specs.Bool.{MatchBool}
 use Rattle.std.specs.Global.{Vec}
-use Rattle.std.specs.Option.{option_and_then, option_map, option_or}
+use Rattle.std.specs.Option.{option_map}
 use Rattle.std.specs.FinMap as fm
 use Rattle.row_types.specs.Order.{key_order}
 use Rattle.row_types.proofs.OrderLaws.{key_total}
-use Rattle.row_types.specs.declared.rule.Refused.{Refused}
 use Rattle.row_types.specs.declared.value.Value.{Value}
 use Rattle.tier_base.specs.declared.limit.Limit.TheVariants as limit
 use Rattle.tier_base.specs.declared.number.SessionId.{SessionId}
 use Rattle.tier_base.specs.declared.number.TableId.{TableId}
 use Rattle.indexed_rows.specs.Rows.{Table, is_same, key_of}
-use Rattle.indexed_rows.proofs.EntryLaws.{same_itself, same_values}
 use Rattle.table_defs.specs.declared.definition.TableDef.{TableDef}
-use Rattle.table_state.specs.Histories.{state_at}
 use Rattle.table_state.specs.Tables.{TableState}
 use Rattle.evaluator.specs.Cascades.{key_in}
 use Rattle.evaluator.specs.Writes.{selects}
 use Rattle.instances.specs.Trees.{place_of}
 use Rattle.instances.specs.Views.{is_true, kept_at, passes, root_rows, rows_where}
 use Rattle.instances.proofs.Gathering.{get_where}
-use Rattle.open_sessions.specs.Opening.{seen_all}
 use Rattle.outside.specs.Holding.{Held}
 use Rattle.outside.specs.Sites.{SiteState}
 use Rattle.order_laws.proofs.TruthLaws.{both_true, never_both}
@@ -34,7 +30,6 @@ use Rattle.group_store.specs.Shown.{AreHoused}
 use Rattle.group_store.specs.Stores.{HasRootKeys, Kept, cut_store}
 use Rattle.group_store.specs.Trees.{leads}
 use Rattle.tier_journal.specs.declared.journal.TierJournal.{TierJournal}
-use Rattle.tier_statements.specs.Seen.{session_seen}
 use Rattle.cache_tier.specs.declared.group.AgingRule.{AgingRule}
 use Rattle.cache_tier.specs.declared.group.AgingRule.TheVariants.{ByTime, LastUse}
 use Rattle.cache_tier.specs.declared.group.GroupDef.{GroupDef}
@@ -44,13 +39,12 @@ use Rattle.cache_tier.specs.Conditions.{is_id, matches}
 use Rattle.cache_tier.specs.Events.{with_tier}
 use Rattle.cache_tier.specs.Groups.{Group, has_list, is_key, is_read_only, without_keys}
 use Rattle.cache_tier.specs.Sets.{alone, changed_from}
-use Rattle.cache_tier.specs.Shown.{exceeds, no_rows, root_key, shown, shown_roots, shown_where, shows_root, state_behind}
+use Rattle.cache_tier.specs.Shown.{exceeds, no_rows, root_key, shown, shown_where, shows_root, state_behind}
 use Rattle.cache_tier.specs.Targets.{Target}
 use Rattle.cache_tier.specs.UnloadSteps.{gone_keys, listed_in, matching_shown, unload_answer, unload_entries, unloaded}
 use Rattle.cache_tier.specs.Worlds.{World, only}
 use Rattle.cache_tier.proofs.HistoryKeeps.{root_covers}
 use Rattle.cache_tier.proofs.KeyListLaws.{key_in_map, key_without}
-use Rattle.cache_tier.proofs.LoadLaws.{unload_keys}
 use Rattle.cache_tier.proofs.ShownTrees.{front_kept}
 use Rattle.stored_tier.specs.declared.tier.Tier.{Tier as Stored}
 use Rattle.stored_tier.specs.Choosing.{matches_at}
@@ -61,16 +55,16 @@ use Rattle.stored_tier.specs.Stored.{AreKept, AreWhole, HidesRows, IsSound, IsSt
 use Rattle.stored_tier.proofs.HiddenRows.{hides_listed}
 use Rattle.group_engine.proofs.UnloadKept.{sound_confirmed}
 use Rattle.stored_tier.proofs.QuietLaws.{stands_over}
-use Rattle.stored_tier.proofs.ListLaws.{all_hiding, all_listed, hidden_long, hiding_long, hiding_there, kept_long, listed_same, listed_there, stored_keys, stores_long}
+use Rattle.stored_tier.proofs.ListLaws.{all_hiding, all_listed, hidden_long, hiding_long, hiding_there, kept_long, listed_there, stored_keys, stores_long}
 use Rattle.stored_tier.proofs.SoundParts.{changed_defs}
 use Rattle.stored_tier.proofs.StoreChanges.{form_kept, get_here, get_there, housed_set, kept_set, shows_changed}
 use Rattle.stored_tier.proofs.StoreRows.{form_at, form_here}
-use Rattle.aging_cycles.proofs.Behind.{defined}
-use Rattle.aging_cycles.proofs.KeyLists.{cut_keys}
-use Rattle.aging_cycles.specs.Running.{cut_all}
-use Rattle.aging_cycles.proofs.RootRows.{Drops, fewer_rows, kept_through, keys_picked, nothing_kept}
-use Rattle.aging_cycles.proofs.Walks.{got, take_next}
-use Rattle.aging_cycles.proofs.Shows.{form, keyed, keyed_alone, left_shows, root_is, roots_are, store_root}
+use Rattle.changed_sets.specs.OfAgingCycles.Behind.{defined}
+use Rattle.changed_sets.specs.OfAgingCycles.KeyLists.{cut_keys}
+use Rattle.changed_sets.specs.OfAgingCycles.Running.{cut_all}
+use Rattle.changed_sets.specs.OfAgingCycles.RootRows.{Drops, fewer_rows, kept_through, keys_picked, nothing_kept}
+use Rattle.changed_sets.specs.OfAgingCycles.Walks.{got, take_next}
+use Rattle.changed_sets.specs.OfAgingCycles.Shows.{form, keyed, keyed_alone, left_shows, root_is, roots_are, store_root}
 use Rattle.group_engine.specs.declared.aiming.Aim.{Aim}
 use Rattle.group_engine.specs.declared.ready.Ready.{Ready}
 use Rattle.group_engine.specs.Ready.{AnswersBehind}

@@ -7,9 +7,9 @@ use Rattle.group_store.specs.Stores.{Kept, cleared_store}
 use Rattle.cache_tier.specs.Groups.{Group}
 use Rattle.stored_tier.specs.declared.tier.Tier.{Tier as Stored}
 use Rattle.stored_tier.specs.Stored.{IsSound, IsVerified, rows_of}
-use Rattle.aging_cycles.specs.Coming.{HasRowsOf, HaveRowsOf, StayKeyed, StoresRowsOf}
-use Rattle.aging_cycles.proofs.RowsOf.{all_set, rows_alike, rows_cleared, rows_through}
-use Rattle.aging_cycles.proofs.LeftRows.{rows_gone}
+use Rattle.changed_sets.specs.OfAgingCycles.Coming.{HasRowsOf, HaveRowsOf, StayKeyed, StoresRowsOf}
+use Rattle.changed_sets.specs.OfAgingCycles.RowsOf.{all_set, rows_alike, rows_cleared, rows_through}
+use Rattle.changed_sets.specs.OfAgingCycles.LeftRows.{rows_gone}
 use Rattle.group_engine.specs.declared.aiming.Aim.{Aim}
 use Rattle.group_engine.specs.Unloading.{IsClearedGroup, IsCutGroup, LeavesGroup}
 use Rattle.group_engine.specs.UnloadHidden.{AreCutAt, IsCutHiding}

@@ -1,7 +1,6 @@
 -- Instances that leave a writethrough group: what is stored and shown then.
-use Rattle.std.proofs.Common.{◌≡◌, ◌<◌, ℕ, zero, suc, Bool, true, false, not, cond, ◌&&◌, ◌||◌, Option, Some, None, is_some, List, [], ◌∷◌, ◌++◌, filter, length, map, slice_get, unwrap_or, arith, refl, sym, ap, ◌∙◌}
+use Rattle.std.proofs.Common.{◌≡◌, ◌<◌, ℕ, zero, suc, Bool, true, false, not, cond, ◌&&◌, ◌||◌, Option, Some, None, is_some, List, [], ◌∷◌, ◌++◌, filter, length, slice_get, unwrap_or, arith, refl, sym, ap, ◌∙◌}
 use Rattle.std.proofs.lemmas.List.{length-map}
-use Rattle.std.specs.List.{list_all, list_any}
 use Rattle.std.specs.Option.{option_map}
 use Rattle.std.specs.FinMap as fm
 use Rattle.row_types.specs.declared.value.Value.{Value}
@@ -14,9 +13,8 @@ use Rattle.evaluator.specs.Writes.{selects}
 use Rattle.instances.specs.declared.tree.Child.{Child}
 use Rattle.instances.specs.declared.tree.Tree.{Tree}
 use Rattle.instances.specs.Trees.{place_of, table_of}
-use Rattle.instances.specs.Views.{is_true, kept_at, passes, refers_to_one, rows_where, with_children}
+use Rattle.instances.specs.Views.{kept_at, refers_to_one, rows_where, with_children}
 use Rattle.instances.specs.Views as views
-use Rattle.instances.proofs.Gathering.{entry_found}
 use Rattle.cache_store.specs.Shown.{shown_of}
 use Rattle.cache_store.proofs.ShownLaws.{shown_length}
 use Rattle.group_catalog.specs.declared.which.ResolvedWhich.{ResolvedWhich}
@@ -24,16 +22,14 @@ use Rattle.group_store.specs.Keeping.{IsFor, KeepsOthers, KeepsShown, layer_for,
 use Rattle.group_store.specs.Stores.{Kept, SameButSpare, cut_store}
 use Rattle.order_laws.specs.Commits.{virtual_state}
 use Rattle.order_laws.proofs.TableLaws.{get_same}
-use Rattle.cache_tier.specs.Conditions.{is_id, matches}
 use Rattle.cache_tier.specs.Groups.{Group, is_key, is_writethrough}
-use Rattle.cache_tier.specs.Shown.{instances_where, no_rows, root_key, shown, shown_in, shown_roots, shown_state}
+use Rattle.cache_tier.specs.Shown.{instances_where, no_rows, root_key, shown, shown_roots}
 use Rattle.cache_tier.specs.Targets.{Target}
 use Rattle.cache_tier.specs.UnloadSteps.{matching_shown}
 use Rattle.cache_tier.specs.Worlds.{World}
 use Rattle.cache_tier.specs.StandingBetween.{IsCatalogued}
 use Rattle.cache_tier.proofs.ChosenGroups.{each_at}
 use Rattle.cache_tier.proofs.GroupTables.{read_only_not}
-use Rattle.cache_tier.proofs.KeyListLaws.{key_in_map}
 use Rattle.cache_tier.proofs.SessionLaws.{Known, known}
 use Rattle.cache_tier.proofs.ShownTables.{cond_some, defined_in, root_plain, some_def}
 use Rattle.cache_tier.proofs.ShownTrees.{place_there}
@@ -42,13 +38,12 @@ use Rattle.stored_tier.specs.Choosing.{chosen, matches_at}
 use Rattle.stored_tier.specs.Performing.{StandsFor}
 use Rattle.stored_tier.specs.Stored.{IsSound}
 use Rattle.group_engine.specs.Taking.{IsOfTarget}
-use Rattle.aging_cycles.specs.Running.{cut_all}
+use Rattle.changed_sets.specs.OfAgingCycles.Running.{cut_all}
 use Rattle.group_engine.specs.Unloading.{leaving}
-use Rattle.stored_tier.proofs.GatherLaws.{entries_kept}
 use Rattle.group_engine.proofs.GroupRows.{shown_of_place}
 use Rattle.group_engine.proofs.LoadLaws.{same_kept}
 use Rattle.group_engine.proofs.MatchedRoots.{leaving_is, leaving_long, shown_matching}
-use Rattle.group_engine.proofs.MatchLaws.{HasRoots, instances_of_keys, retain_alike, root_of_shown, shown_alike, shown_by_keys}
+use Rattle.group_engine.proofs.MatchLaws.{HasRoots, instances_of_keys, root_of_shown, shown_alike, shown_by_keys}
 use Rattle.stored_tier.proofs.StoreRows.{form_here, kept_is_shown}
 
 abbrev Row : Type 0

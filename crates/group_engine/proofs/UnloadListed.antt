@@ -1,5 +1,5 @@
 -- Instances of a dynamic READONLY group leave that hides none.
-use Rattle.std.proofs.Common.{◌≡◌, ◌+◌, ℕ, zero, Bool, true, false, not, cond, ◌&&◌, ◌||◌, Option, Some, None, Ok, Err, List, map, slice_get, unwrap_or, refl, sym, ap, subst, ◌∙◌, inl, inr, arith, ℤ}
+use Rattle.std.proofs.Common.{◌≡◌, ◌+◌, ℕ, Bool, true, false, not, cond, ◌&&◌, ◌||◌, Option, Some, None, Err, List, map, slice_get, unwrap_or, refl, sym, ap, subst, ◌∙◌, inl, inr, arith, ℤ}
 use Rattle.std.specs.Option.{option_or}
 use Rattle.std.specs.FinMap as fm
 use Rattle.row_types.specs.declared.rule.Refused.{Refused}
@@ -13,14 +13,13 @@ use Rattle.indexed_rows.specs.Rows.{Table, key_of}
 use Rattle.table_defs.specs.Declarations.{IsRefusedBy}
 use Rattle.table_state.specs.Tables.{TableState}
 use Rattle.instances.specs.Trees.{place_of}
-use Rattle.instances.specs.Views.{kept_at, root_rows, rows_where}
+use Rattle.instances.specs.Views.{kept_at, rows_where}
 use Rattle.open_sessions.specs.Opening.{seen_all}
 use Rattle.outside.specs.Holding.{Held}
 use Rattle.outside.specs.Sites.{SiteState}
 use Rattle.order_laws.proofs.TruthLaws.{both_true}
 use Rattle.group_catalog.specs.Catalogs.{groups_in}
 use Rattle.group_store.specs.Keeping.{primary_of}
-use Rattle.group_store.specs.Stores.{Kept}
 use Rattle.slot_rows.specs.SlotKeys.{RowsHeld}
 use Rattle.tier_journal.specs.declared.journal.TierJournal.{TierJournal}
 use Rattle.tier_journal.proofs.WayLaws.{kept_unless}
@@ -52,9 +51,9 @@ use Rattle.stored_tier.proofs.ListLaws.{hides_there, listed_same}
 use Rattle.stored_tier.proofs.SoundParts.{changed_defs}
 use Rattle.stored_tier.proofs.StoreChanges.{form_kept, shows_changed}
 use Rattle.stored_tier.proofs.StoreRows.{form_here}
-use Rattle.aging_cycles.proofs.KeyLists.{cut_keys}
-use Rattle.aging_cycles.proofs.RootRows.{Drops}
-use Rattle.aging_cycles.proofs.Shows.{form, keyed, keyed_alone, left_shows, root_is, roots_are}
+use Rattle.changed_sets.specs.OfAgingCycles.KeyLists.{cut_keys}
+use Rattle.changed_sets.specs.OfAgingCycles.RootRows.{Drops}
+use Rattle.changed_sets.specs.OfAgingCycles.Shows.{form, keyed, keyed_alone, left_shows, root_is, roots_are}
 use Rattle.group_engine.specs.declared.aiming.Aim.{Aim}
 use Rattle.group_engine.specs.declared.ready.Ready.{Ready}
 use Rattle.group_engine.specs.Ready.{AnswersBehind, is_full_ready}

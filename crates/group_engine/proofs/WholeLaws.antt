@@ -1,5 +1,5 @@
 -- A READONLY group that is loaded with its set, or alone.
-use Rattle.std.proofs.Common.{◌≡◌, ◌<◌, ℕ, Bool, true, false, cond, not, ◌&&◌, ◌||◌, nat_eq, Option, Some, None, List, [], ◌∷◌, length, map, slice_get, refl, sym, ap, subst, ◌∙◌, inl, inr, ⊎_elim, arith}
+use Rattle.std.proofs.Common.{◌≡◌, ℕ, Bool, true, false, cond, not, ◌&&◌, ◌||◌, nat_eq, Option, Some, None, List, map, slice_get, refl, sym, ap, subst, ◌∙◌, inl, inr, ⊎_elim}
 use Rattle.std.specs.Prelude.{Result, Ok, Err}
 use Rattle.std.specs.Bool.{MatchBool}
 use Rattle.std.specs.Option.{option_map}
@@ -19,7 +19,6 @@ use Rattle.cache_tier.specs.Groups.{Group, is_explicit, is_on, is_read_only, is_
 use Rattle.cache_tier.specs.DynamicLoads.{state_loaded}
 use Rattle.cache_tier.specs.Reading.{Answers, FollowsAt, backing_at}
 use Rattle.cache_tier.specs.Sets.{Choice, OnePosition, alone, at_position, changed_from, loaded_state, loaded_with, of_set, is_in_set, set_tried}
-use Rattle.cache_tier.specs.Shown.{shown}
 use Rattle.cache_tier.specs.Targets.{Settles, Target, has_flag, load_entries, shown_count, whole_answer, with_flag}
 use Rattle.cache_tier.specs.TierStates.{Tier, refresh_tried}
 use Rattle.cache_tier.specs.Worlds.{BankCall, World, bank_fault, only}

@@ -1,13 +1,10 @@
 -- The instance that a statement wants of a READONLY group. (TimesTen Cache User's Guide, "Dynamically loading a cache
 -- instance"; that its whole set is refreshed with it is this project's rule.)
 
-use Rattle.std.specs.Prelude.{◌≡◌, ◌⊎◌, ℕ, List, Option, Some, None, true, ◌&&◌, not, slice_get, if◌then◌else◌}
-use Rattle.std.specs.FinMap.{empty, get}
+use Rattle.std.specs.Prelude.{◌≡◌, ◌⊎◌, ℕ, List, Option, Some, true, slice_get}
 use Rattle.tier_base.specs.declared.code.Code.TheVariants as code
-use Rattle.row_types.specs.declared.value.Value.{Value}
-use Rattle.indexed_rows.specs.Rows.{Table, put_in}
-use Rattle.table_state.specs.Tables.{TableState, table_at}
-use Rattle.instances.specs.Roots.{root_of}
+use Rattle.indexed_rows.specs.Rows.{Table}
+use Rattle.table_state.specs.Tables.{TableState}
 use Rattle.slot_rows.specs.SlotKeys.{RowsHeld}
 use Rattle.group_store.specs.Stores.{HasRootKeys, Kept}
 use Rattle.cache_tier.specs.DynamicLoads.{BringsReadOnly, joined_tier, state_entries}
@@ -23,7 +20,6 @@ use Rattle.cache_tier.specs.declared.reply.Reply.{Reply}
 use Rattle.tier_journal.specs.declared.journal.TierJournal.{TierJournal}
 use Rattle.stored_tier.specs.declared.refreshing.Made.{Made}
 use Rattle.stored_tier.specs.declared.tier.Tier.{Tier as Stored}
-use Rattle.stored_tier.specs.Filling.{is_held}
 use Rattle.group_engine.specs.Gaining.{AreMadeGaining, IsStoredAt}
 use Rattle.group_engine.specs.Taking.{IsGroupAt, PerformsWhere}
 pub use Rattle.changed_sets.specs.Gains.{found_in, found_row, found_under}

@@ -9,14 +9,13 @@ use Rattle.indexed_rows.specs.Rows.{Table, key_of, put_in}
 use Rattle.table_defs.specs.declared.definition.TableDef.{TableDef}
 use Rattle.table_state.specs.Tables.{TableState, table_at}
 use Rattle.evaluator.specs.Writes.{selects as judges}
-use Rattle.instances.specs.Views.{kept_at, selects}
+use Rattle.instances.specs.Views.{kept_at}
 use Rattle.slot_rows.specs.SlotKeys.{RowsHeld}
 use Rattle.group_catalog.specs.Catalogs.{groups_in}
 use Rattle.group_catalog.specs.declared.which.ResolvedWhich.{ResolvedWhich}
 use Rattle.group_store.specs.Stores.{HasRootKeys, Kept, SameButSpare}
 use Rattle.cache_tier.specs.Groups.{Group}
 use Rattle.cache_tier.specs.Sets.{Choice}
-use Rattle.cache_tier.specs.Shown.{exceeds}
 use Rattle.stored_tier.specs.declared.refreshing.Made.{Made}
 use Rattle.stored_tier.specs.declared.tier.Tier.{Tier as Stored}
 use Rattle.stored_tier.specs.Choosing.{chosen, matches_at}

@@ -16,3 +16,4 @@ pub mod UnloadLocks
 pub mod UnloadHidden
 pub mod UnloadNamed
 pub mod Unloading
+pub mod OfAgingCycles

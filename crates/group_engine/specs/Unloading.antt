@@ -1,6 +1,6 @@
 -- UNLOAD over what is stored. (TimesTen SQL Reference, "UNLOAD CACHE GROUP".)
 
-use Rattle.std.specs.Prelude.{◌≡◌, ℕ, List, [], ◌∷◌, Bool, true, false, ◌&&◌, not, Option, None, Some, Result, Ok, Err, filter, length, map, set, slice_get, if◌then◌else◌}
+use Rattle.std.specs.Prelude.{◌≡◌, ℕ, List, [], Bool, true, false, ◌&&◌, not, Option, None, Some, Result, Ok, Err, filter, length, map, set, slice_get, if◌then◌else◌}
 use Rattle.std.specs.FinMap.{len, values}
 use Rattle.row_types.specs.declared.rule.Refused.{Refused}
 use Rattle.row_types.specs.declared.rule.Refused.TheVariants as refused
@@ -24,7 +24,7 @@ use Rattle.cache_tier.specs.Groups.{Group, is_explicit, is_read_only, place_call
 use Rattle.cache_tier.specs.Order.{is_whole_only, refusal, wrong_state}
 use Rattle.cache_tier.specs.Rules.{open_writes, plain}
 use Rattle.cache_tier.specs.TierStates.{Session, Tier}
-use Rattle.aging_cycles.specs.Running.{cut_all}
+use Rattle.changed_sets.specs.OfAgingCycles.Running.{cut_all}
 use Rattle.group_engine.specs.declared.aiming.Aim.{Aim}
 use Rattle.stored_tier.specs.declared.tier.Tier.{Tier as Stored}
 use Rattle.group_engine.specs.Aiming.{IsAimed}

@@ -22,3 +22,5 @@ mod unload_listed;
 pub mod unload_locks;
 mod unload_named;
 pub mod unloading;
+
+pub use changed_sets::{age, are_fit, confirm, kept_rows_law};

@@ -11,8 +11,7 @@ ghost use Rattle.group_engine.specs.UnloadHidden.{IsCutHiding, hides_some};
 use crate::aiming::Aim;
 use crate::unload_hidden::cut_hiding;
 use crate::unloading::{clear_group, cut_group};
-use aging_cycles::confirming::confirm;
-use aging_cycles::laws::kept_rows_law;
+use changed_sets::{confirm, kept_rows_law};
 use std::alloc::{AllocError, Global};
 use stored_tier::tier::Tier;
 

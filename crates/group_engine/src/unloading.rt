@@ -14,7 +14,7 @@ ghost use Rattle.tier_statements.specs.Seen.{session_seen};
 ghost use Rattle.cache_tier.specs.Locks.{locked_by};
 ghost use Rattle.cache_tier.specs.Conditions.{overflows};
 ghost use Rattle.stored_tier.specs.Grouping.{KeepsGroups};
-ghost use Rattle.aging_cycles.specs.Running.{cut_all};
+ghost use Rattle.changed_sets.specs.OfAgingCycles.Running.{cut_all};
 ghost use Rattle.group_engine.specs.Unloading.{IsClearedAt, IsClearedBy, IsClearedGroup, IsCutAt, IsCutBy, IsCutGroup, IsReadyToLeave, IsWholeAt, UnloadsHere, UnloadsReady, flagged, unload_state, AimsUnloadIn};
 ghost use Rattle.group_engine.specs.UnloadLocks.{LocksTold, RootsTold, UnloadTold};
 ghost use Rattle.group_engine.specs.UnloadNamed.{FitsUnder};

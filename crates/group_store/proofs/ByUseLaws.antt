@@ -2,12 +2,12 @@
 use Rattle.std.proofs.Common.{◌≡◌, ℕ, List, true, false, slice_get, nat_eq, Option, Some, None, refl, sym, ap, subst, ◌∙◌}
 use Rattle.std.specs.Option.{option_map}
 use Rattle.std.specs.FinMap as fm
-use Rattle.row_types.specs.declared.value.Value.{Value}
-use Rattle.recency.specs.Rings.{next_key}
-use Rattle.indexed_rows.specs.Places.{IsKeyAt}
-use Rattle.indexed_rows.specs.Rows.{Table, is_same, key_of}
-use Rattle.indexed_rows.proofs.EntryLaws.{at_has, mapped_at, unmapped_at}
-use Rattle.indexed_rows.proofs.MapLaws.{slice_get_map}
+use Rattle.slot_rows.specs.row_types.specs.declared.value.Value.{Value}
+use Rattle.cache_store.specs.recency.specs.Rings.{next_key}
+use Rattle.slot_rows.specs.indexed_rows.specs.Places.{IsKeyAt}
+use Rattle.slot_rows.specs.indexed_rows.specs.Rows.{Table, is_same, key_of}
+use Rattle.slot_rows.specs.indexed_rows.proofs.EntryLaws.{at_has, mapped_at, unmapped_at}
+use Rattle.slot_rows.specs.indexed_rows.proofs.MapLaws.{slice_get_map}
 use Rattle.slot_rows.specs.SlotKeys.{IsKeyedBy, IsPlaceOf, RowsHeld, SlotKeys}
 use Rattle.group_store.specs.Recent.{AreRecent, StandsAt, key_in, keys_of}
 use Rattle.group_store.proofs.RecentLaws.{in_slot, next_is, next_there, no_first, of_recent}

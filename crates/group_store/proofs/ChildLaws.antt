@@ -2,10 +2,10 @@
 use Rattle.std.proofs.Common.{◌≡◌, ℕ, zero, suc, ◌<◌, ◌≤◌, Bool, true, false, cond, List, [], ◌∷◌, ◌++◌, length, drop, Some, None, refl, sym, ap, ◌∙◌, arith}
 use Rattle.std.proofs.lemmas.List.{length-map}
 use Rattle.std.specs.FinMap as fm
-use Rattle.row_types.specs.declared.value.Value.{Value}
-use Rattle.indexed_rows.specs.Rows.{Table, first_from, has_key, key_of}
-use Rattle.indexed_rows.proofs.EntryLaws.{same_values, there}
-use Rattle.indexed_rows.proofs.FirstLaws.{here, no_more}
+use Rattle.slot_rows.specs.row_types.specs.declared.value.Value.{Value}
+use Rattle.slot_rows.specs.indexed_rows.specs.Rows.{Table, first_from, has_key, key_of}
+use Rattle.slot_rows.specs.indexed_rows.proofs.EntryLaws.{same_values, there}
+use Rattle.slot_rows.specs.indexed_rows.proofs.FirstLaws.{here, no_more}
 use Rattle.slot_rows.specs.Orders.{place_from}
 use Rattle.group_store.specs.Joined.{foreign_there}
 use Rattle.group_store.specs.Recent.{orders_for}
@@ -14,7 +14,7 @@ use Rattle.group_store.specs.declared.tree_rows.TreeRows.{TreeRows}
 use Rattle.group_store.proofs.JoinedLaws.{next_place}
 use Rattle.std.proofs.Common.{◌-◌, slice_get, unwrap_or}
 use Rattle.std.specs.Option.{option_map}
-use Rattle.indexed_rows.proofs.MapLaws.{slice_get_map}
+use Rattle.slot_rows.specs.indexed_rows.proofs.MapLaws.{slice_get_map}
 use Rattle.group_store.specs.Joined.{layer_of}
 
 abbrev Row : Type 0

@@ -1,7 +1,7 @@
 -- Tables without rows.
 use Rattle.std.proofs.Common.{◌≡◌, ℕ, suc, ◌<◌, List, [], ◌∷◌, length, map, slice_get, Some, refl, arith}
 use Rattle.std.specs.FinMap.{empty}
-use Rattle.indexed_rows.specs.Rows.{Table}
+use Rattle.slot_rows.specs.indexed_rows.specs.Rows.{Table}
 use Rattle.group_store.specs.Joined.{tables_of}
 use Rattle.group_store.specs.Trees.{all_empty}
 use Rattle.group_store.specs.declared.tree_rows.ChildRows.{ChildRows}

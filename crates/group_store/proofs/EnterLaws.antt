@@ -4,16 +4,16 @@ use Rattle.std.specs.List.{flat_map}
 use Rattle.std.specs.Option.{option_map}
 use Rattle.std.specs.List.{position}
 use Rattle.std.specs.FinMap as fm
-use Rattle.row_types.specs.declared.value.Value.{Value}
-use Rattle.row_types.proofs.OrderLaws.{key_total}
-use Rattle.tier_base.specs.declared.number.TableId.{TableId}
-use Rattle.indexed_rows.specs.Rows.{Table, is_same, key_of}
-use Rattle.indexed_rows.proofs.EntryLaws.{same_itself, same_values}
-use Rattle.table_state.specs.declared.operation.Op.{Op}
-use Rattle.table_state.specs.declared.operation.Op.TheVariants.{Delete, Insert, Update}
-use Rattle.instances.specs.Trees.{same_table}
-use Rattle.instances.specs.Views.{kept_at}
-use Rattle.recency.specs.Rings.{keys_without}
+use Rattle.slot_rows.specs.row_types.specs.declared.value.Value.{Value}
+use Rattle.slot_rows.specs.row_types.proofs.OrderLaws.{key_total}
+use Rattle.slot_rows.specs.tier_base.specs.declared.number.TableId.{TableId}
+use Rattle.slot_rows.specs.indexed_rows.specs.Rows.{Table, is_same, key_of}
+use Rattle.slot_rows.specs.indexed_rows.proofs.EntryLaws.{same_itself, same_values}
+use Rattle.cache_store.specs.table_state.specs.declared.operation.Op.{Op}
+use Rattle.cache_store.specs.table_state.specs.declared.operation.Op.TheVariants.{Delete, Insert, Update}
+use Rattle.cache_store.specs.instances.specs.Trees.{same_table}
+use Rattle.cache_store.specs.instances.specs.Views.{kept_at}
+use Rattle.cache_store.specs.recency.specs.Rings.{keys_without}
 use Rattle.cache_store.specs.Shown.{is_among}
 use Rattle.cache_store.proofs.InsertLaws.{nat_eq_other}
 use Rattle.group_store.specs.Entering.{Keys, entered_by, left_by}

@@ -5,25 +5,25 @@ use Rattle.std.proofs.lemmas.List.{length-map}
 use Rattle.std.specs.List.{position, prefix_len}
 use Rattle.std.specs.Option.{option_and_then, option_map}
 use Rattle.std.specs.FinMap.{contains_key, get}
-use Rattle.row_types.specs.declared.value.Value.{Value}
-use Rattle.tier_base.specs.declared.number.TableId.{TableId}
-use Rattle.table_defs.specs.declared.definition.ForeignKey.{ForeignKey}
-use Rattle.table_defs.specs.declared.definition.TableDef.{TableDef}
-use Rattle.table_defs.specs.Declarations.{foreign_places}
-use Rattle.indexed_rows.specs.Rows.{Table, key_of}
-use Rattle.table_state.specs.Sound.{IsTableState}
-use Rattle.table_state.specs.Tables.{TableState, has_parent, table_at}
-use Rattle.instances.specs.declared.tree.Child.{Child}
-use Rattle.instances.specs.declared.tree.Tree.{Tree}
-use Rattle.instances.specs.Trees.{are_sound, is_parent, is_place, is_sound, is_sound_child, place_of, same_table, table_of}
-use Rattle.instances.specs.Views.{child_rows, is_kept, kept_at, refers_to_one, root_rows, rows_where, selects, with_children}
+use Rattle.slot_rows.specs.row_types.specs.declared.value.Value.{Value}
+use Rattle.slot_rows.specs.tier_base.specs.declared.number.TableId.{TableId}
+use Rattle.cache_store.specs.table_defs.specs.declared.definition.ForeignKey.{ForeignKey}
+use Rattle.cache_store.specs.table_defs.specs.declared.definition.TableDef.{TableDef}
+use Rattle.cache_store.specs.table_defs.specs.Declarations.{foreign_places}
+use Rattle.slot_rows.specs.indexed_rows.specs.Rows.{Table, key_of}
+use Rattle.cache_store.specs.table_state.specs.Sound.{IsTableState}
+use Rattle.cache_store.specs.table_state.specs.Tables.{TableState, has_parent, table_at}
+use Rattle.cache_store.specs.instances.specs.declared.tree.Child.{Child}
+use Rattle.cache_store.specs.instances.specs.declared.tree.Tree.{Tree}
+use Rattle.cache_store.specs.instances.specs.Trees.{are_sound, is_parent, is_place, is_sound, is_sound_child, place_of, same_table, table_of}
+use Rattle.cache_store.specs.instances.specs.Views.{child_rows, is_kept, kept_at, refers_to_one, root_rows, rows_where, selects, with_children}
 use Rattle.cache_store.specs.Covering.{ChildrenCoverAll, CoversAll}
 use Rattle.cache_store.specs.Operating.{ParentsFirst, StandsAt}
 use Rattle.cache_store.specs.Shown.{shown_of}
 use Rattle.cache_store.proofs.ShownLaws.{at_drop, at_end, at_front, length_more, past_drop}
 use Rattle.group_store.specs.Keeping.{HasNoFilter, IsFor, layer_for, primary_of}
 use Rattle.group_store.specs.Trees.{key_at}
-use Rattle.indexed_rows.proofs.MapLaws.{slice_get_map}
+use Rattle.slot_rows.specs.indexed_rows.proofs.MapLaws.{slice_get_map}
 use Rattle.group_store.specs.Stores.{Kept, place_in}
 use Rattle.std.specs.FinMap.{retain_keys}
 

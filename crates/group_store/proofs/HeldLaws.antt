@@ -2,11 +2,11 @@
 use Rattle.std.proofs.Common.{◌≡◌, ℕ, suc, Bool, true, false, ◌&&◌, ◌||◌, List, [], ◌∷◌, length, slice_get, Some, is_some, refl, sym, ap, ◌∙◌}
 use Rattle.std.specs.List.{list_any}
 use Rattle.std.specs.FinMap as fm
-use Rattle.row_types.specs.declared.value.Value.{Value}
-use Rattle.tier_base.specs.declared.number.TableId.{TableId}
-use Rattle.indexed_rows.specs.Rows.{Table}
-use Rattle.indexed_rows.proofs.EntryLaws.{at_has, unmapped_at}
-use Rattle.instances.specs.Views.{kept_at}
+use Rattle.slot_rows.specs.row_types.specs.declared.value.Value.{Value}
+use Rattle.slot_rows.specs.tier_base.specs.declared.number.TableId.{TableId}
+use Rattle.slot_rows.specs.indexed_rows.specs.Rows.{Table}
+use Rattle.slot_rows.specs.indexed_rows.proofs.EntryLaws.{at_has, unmapped_at}
+use Rattle.cache_store.specs.instances.specs.Views.{kept_at}
 use Rattle.group_store.specs.Trees.{leads}
 use Rattle.group_store.specs.Held.{has_row, held_at, is_instance_held}
 use Rattle.group_store.specs.Stores.{Kept}

@@ -1,14 +1,14 @@
 -- A root that is hidden.
 use Rattle.std.proofs.Common.{◌≡◌, Bool, true, false, cond, ◌&&◌, ◌||◌, List, [], ◌∷◌, ◌++◌, Option, Some, None, is_some, refl, sym, ap, ◌∙◌}
 use Rattle.std.specs.FinMap as fm
-use Rattle.row_types.specs.declared.value.Value.{Value}
-use Rattle.row_types.proofs.OrderLaws.{key_exact, key_total}
-use Rattle.indexed_rows.specs.Rows.{Table, is_same}
-use Rattle.indexed_rows.proofs.EntryLaws.{get_new, get_other, same_itself, same_values}
-use Rattle.table_state.specs.Tables.{TableState}
-use Rattle.instances.specs.declared.tree.Child.{Child}
-use Rattle.instances.specs.declared.tree.Tree.{Tree}
-use Rattle.instances.specs.Views.{child_rows, kept_at, root_rows, with_children}
+use Rattle.slot_rows.specs.row_types.specs.declared.value.Value.{Value}
+use Rattle.slot_rows.specs.row_types.proofs.OrderLaws.{key_exact, key_total}
+use Rattle.slot_rows.specs.indexed_rows.specs.Rows.{Table, is_same}
+use Rattle.slot_rows.specs.indexed_rows.proofs.EntryLaws.{get_new, get_other, same_itself, same_values}
+use Rattle.cache_store.specs.table_state.specs.Tables.{TableState}
+use Rattle.cache_store.specs.instances.specs.declared.tree.Child.{Child}
+use Rattle.cache_store.specs.instances.specs.declared.tree.Tree.{Tree}
+use Rattle.cache_store.specs.instances.specs.Views.{child_rows, kept_at, root_rows, with_children}
 use Rattle.group_store.specs.Hiding.{HidesOne, hidden_with}
 
 abbrev Row : Type 0

@@ -4,17 +4,17 @@ use Rattle.std.proofs.lemmas.Bool.{cases_lt, ltb-true}
 use Rattle.std.specs.Option.{option_and_then, option_map, option_or}
 use Rattle.std.specs.List.{position, prefix_len}
 use Rattle.std.specs.FinMap as fm
-use Rattle.row_types.specs.declared.value.Value.{Value}
-use Rattle.tier_base.specs.declared.number.TableId.{TableId}
-use Rattle.table_defs.specs.declared.definition.TableDef.{TableDef}
-use Rattle.row_types.specs.Order.{key_order}
+use Rattle.slot_rows.specs.row_types.specs.declared.value.Value.{Value}
+use Rattle.slot_rows.specs.tier_base.specs.declared.number.TableId.{TableId}
+use Rattle.cache_store.specs.table_defs.specs.declared.definition.TableDef.{TableDef}
+use Rattle.slot_rows.specs.row_types.specs.Order.{key_order}
 use Rattle.std.proofs.lemmas.List.{length-map}
-use Rattle.indexed_rows.specs.Rows.{Table, first_from}
-use Rattle.indexed_rows.proofs.FirstLaws.{no_more}
+use Rattle.slot_rows.specs.indexed_rows.specs.Rows.{Table, first_from}
+use Rattle.slot_rows.specs.indexed_rows.proofs.FirstLaws.{no_more}
 use Rattle.group_store.proofs.ChildLaws.{past_rows}
-use Rattle.table_state.specs.Tables.{TableState, table_at}
-use Rattle.instances.specs.Trees.{same_table}
-use Rattle.instances.specs.Views.{kept_at}
+use Rattle.cache_store.specs.table_state.specs.Tables.{TableState, table_at}
+use Rattle.cache_store.specs.instances.specs.Trees.{same_table}
+use Rattle.cache_store.specs.instances.specs.Views.{kept_at}
 use Rattle.group_store.specs.Shown.{AreHoused, ShowsTable, foreign_key_of, home_from, home_of, homes_from, kept_rows, stored_rows, shown_by, tables_by}
 use Rattle.group_store.specs.Stores.{Kept, foreign_columns, place_in}
 use Rattle.group_store.specs.Trees.{Layer}

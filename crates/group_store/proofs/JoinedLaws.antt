@@ -4,10 +4,10 @@ use Rattle.std.proofs.lemmas.List.{length-map}
 use Rattle.std.proofs.lemmas.Option.{slice_get-get_or}
 use Rattle.std.specs.Option.{option_map}
 use Rattle.std.specs.FinMap as fm
-use Rattle.row_types.specs.declared.value.Value.{Value}
-use Rattle.indexed_rows.proofs.MapLaws.{slice_get_map}
-use Rattle.indexed_rows.specs.Rows.{Table, key_of}
-use Rattle.instances.specs.Views.{kept_at}
+use Rattle.slot_rows.specs.row_types.specs.declared.value.Value.{Value}
+use Rattle.slot_rows.specs.indexed_rows.proofs.MapLaws.{slice_get_map}
+use Rattle.slot_rows.specs.indexed_rows.specs.Rows.{Table, key_of}
+use Rattle.cache_store.specs.instances.specs.Views.{kept_at}
 use Rattle.cache_store.specs.Operating.{change_at}
 use Rattle.group_store.specs.Trees.{CanGo, IsChild, IsChildless, IsLeaf, Layer, key_at, leads}
 use Rattle.group_store.proofs.TreeLaws.{through_child, top_leads, up_to}

@@ -3,17 +3,17 @@ use Rattle.std.proofs.Common.{◌≡◌, ℕ, zero, suc, ◌≤◌, Bool, true, 
 use Rattle.std.proofs.lemmas.List.{length-map}
 use Rattle.std.specs.Option.{option_and_then, option_map}
 use Rattle.std.specs.FinMap as fm
-use Rattle.row_types.specs.declared.value.Value.{Value}
-use Rattle.indexed_rows.proofs.MapLaws.{slice_get_map}
-use Rattle.table_defs.specs.declared.definition.TableDef.{TableDef}
-use Rattle.table_defs.specs.Declarations.{foreign_places}
-use Rattle.indexed_rows.specs.Rows.{Table, is_same, key_of}
-use Rattle.indexed_rows.proofs.EntryLaws.{same_values}
-use Rattle.table_state.specs.Tables.{TableState, table_at}
-use Rattle.instances.specs.declared.tree.Tree.{Tree}
-use Rattle.instances.specs.Instances.{IsIn}
-use Rattle.instances.specs.Roots.{parent_key, root_at, root_within}
-use Rattle.instances.specs.Views.{kept_at, view_of}
+use Rattle.slot_rows.specs.row_types.specs.declared.value.Value.{Value}
+use Rattle.slot_rows.specs.indexed_rows.proofs.MapLaws.{slice_get_map}
+use Rattle.cache_store.specs.table_defs.specs.declared.definition.TableDef.{TableDef}
+use Rattle.cache_store.specs.table_defs.specs.Declarations.{foreign_places}
+use Rattle.slot_rows.specs.indexed_rows.specs.Rows.{Table, is_same, key_of}
+use Rattle.slot_rows.specs.indexed_rows.proofs.EntryLaws.{same_values}
+use Rattle.cache_store.specs.table_state.specs.Tables.{TableState, table_at}
+use Rattle.cache_store.specs.instances.specs.declared.tree.Tree.{Tree}
+use Rattle.cache_store.specs.instances.specs.Instances.{IsIn}
+use Rattle.cache_store.specs.instances.specs.Roots.{parent_key, root_at, root_within}
+use Rattle.cache_store.specs.instances.specs.Views.{kept_at, view_of}
 use Rattle.cache_store.specs.Shown.{has_root, shown_of}
 use Rattle.cache_store.proofs.AboveLaws.{above}
 use Rattle.cache_store.proofs.InsertLaws.{nat_eq_other}

@@ -1,9 +1,9 @@
 -- Slots that stand once in a list.
 use Rattle.std.proofs.Common.{◌≡◌, ℕ, Bool, true, false, not, cond, ◌&&◌, ◌||◌, List, [], ◌∷◌, ◌++◌, filter, nat_eq, Some, is_some, refl, sym, ap, ◌∙◌, eq-eqb, eqb-true}
 use Rattle.std.specs.FinMap as fm
-use Rattle.row_types.specs.declared.value.Value.{Value}
-use Rattle.indexed_rows.specs.Rows.{is_same}
-use Rattle.recency.specs.Rings.{keys_without, touched}
+use Rattle.slot_rows.specs.row_types.specs.declared.value.Value.{Value}
+use Rattle.slot_rows.specs.indexed_rows.specs.Rows.{is_same}
+use Rattle.cache_store.specs.recency.specs.Rings.{keys_without, touched}
 use Rattle.slot_rows.specs.SlotKeys.{SlotKeys}
 use Rattle.cache_store.proofs.TieLaws.{ties_keys}
 use Rattle.group_store.specs.Recent.{AreOnce, AreRecent, key_in, keys_of}

@@ -3,14 +3,14 @@ use Rattle.std.proofs.Common.{◌≡◌, ℕ, zero, suc, ◌+◌, ◌-◌, ◌<�
 use Rattle.std.proofs.lemmas.Bool.{cases_lt}
 use Rattle.std.specs.List.{list_any}
 use Rattle.std.specs.FinMap as fm
-use Rattle.row_types.specs.declared.value.Value.{Value}
-use Rattle.row_types.specs.Order.{key_order}
-use Rattle.tier_base.specs.declared.number.TableId.{TableId}
-use Rattle.indexed_rows.specs.Places.{IsKeyAt}
-use Rattle.indexed_rows.specs.Rows.{Table, first_from, has_key, key_of}
-use Rattle.indexed_rows.proofs.EntryLaws.{at_has, dropped_at, has_at, mapped_at, same_itself, same_values, some_of, unmapped_at}
-use Rattle.indexed_rows.proofs.MapLaws.{slice_get_map}
-use Rattle.instances.specs.Views.{kept_at}
+use Rattle.slot_rows.specs.row_types.specs.declared.value.Value.{Value}
+use Rattle.slot_rows.specs.row_types.specs.Order.{key_order}
+use Rattle.slot_rows.specs.tier_base.specs.declared.number.TableId.{TableId}
+use Rattle.slot_rows.specs.indexed_rows.specs.Places.{IsKeyAt}
+use Rattle.slot_rows.specs.indexed_rows.specs.Rows.{Table, first_from, has_key, key_of}
+use Rattle.slot_rows.specs.indexed_rows.proofs.EntryLaws.{at_has, dropped_at, has_at, mapped_at, same_itself, same_values, some_of, unmapped_at}
+use Rattle.slot_rows.specs.indexed_rows.proofs.MapLaws.{slice_get_map}
+use Rattle.cache_store.specs.instances.specs.Views.{kept_at}
 use Rattle.slot_rows.specs.Orders.{place_from}
 use Rattle.slot_rows.specs.SlotKeys.{IsKeyedBy}
 use Rattle.group_store.specs.Trees.{IsChild, Layer, is_top, leads, parent_of, passes_up}

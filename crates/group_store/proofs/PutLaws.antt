@@ -2,18 +2,18 @@
 use Rattle.std.proofs.Common.{◌≡◌, ℕ, zero, suc, ◌+◌, Bool, true, false, cond, List, [], ◌∷◌, length, map, slice_get, Option, Some, None, refl, sym, ap, subst, ◌∙◌, arith}
 use Rattle.std.specs.Option.{option_map}
 use Rattle.std.specs.FinMap as fm
-use Rattle.row_types.specs.declared.value.Value.{Value}
-use Rattle.row_types.proofs.OrderLaws.{key_exact}
-use Rattle.tier_base.specs.declared.number.TableId.{TableId}
-use Rattle.indexed_rows.specs.Rows.{Table, is_same, key_of, put_in}
-use Rattle.indexed_rows.proofs.EntryLaws.{at_has}
-use Rattle.table_state.specs.Sound.{IsTableState}
-use Rattle.table_state.specs.Tables.{TableState, table_at}
-use Rattle.instances.specs.declared.tree.Child.{Child}
-use Rattle.instances.specs.declared.tree.Tree.{Tree}
-use Rattle.instances.specs.Trees.{is_sound, table_of}
-use Rattle.instances.specs.Views.{instance_of, kept_at, passes, root_rows, selects}
-use Rattle.instances.proofs.Gathering.{get_where}
+use Rattle.slot_rows.specs.row_types.specs.declared.value.Value.{Value}
+use Rattle.slot_rows.specs.row_types.proofs.OrderLaws.{key_exact}
+use Rattle.slot_rows.specs.tier_base.specs.declared.number.TableId.{TableId}
+use Rattle.slot_rows.specs.indexed_rows.specs.Rows.{Table, is_same, key_of, put_in}
+use Rattle.slot_rows.specs.indexed_rows.proofs.EntryLaws.{at_has}
+use Rattle.cache_store.specs.table_state.specs.Sound.{IsTableState}
+use Rattle.cache_store.specs.table_state.specs.Tables.{TableState, table_at}
+use Rattle.cache_store.specs.instances.specs.declared.tree.Child.{Child}
+use Rattle.cache_store.specs.instances.specs.declared.tree.Tree.{Tree}
+use Rattle.cache_store.specs.instances.specs.Trees.{is_sound, table_of}
+use Rattle.cache_store.specs.instances.specs.Views.{instance_of, kept_at, passes, root_rows, selects}
+use Rattle.cache_store.specs.instances.proofs.Gathering.{get_where}
 use Rattle.slot_rows.specs.SlotKeys.{IsKeyedBy}
 use Rattle.cache_store.specs.Operating.{change_at}
 use Rattle.cache_store.specs.Shown.{shown_of, tables_with, with_rows}

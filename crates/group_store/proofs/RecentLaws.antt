@@ -5,14 +5,14 @@ use Rattle.std.specs.Option.{option_and_then, option_map}
 use Rattle.std.specs.Ordering.{eq_by_cmp, is_eq, nat_cmp}
 use Rattle.std.proofs.lemmas.Cmp.{nat_cmp_total, tied_itself}
 use Rattle.std.specs.FinMap as fm
-use Rattle.row_types.specs.declared.value.Value.{Value}
-use Rattle.row_types.specs.Order.{key_order}
-use Rattle.row_types.proofs.OrderLaws.{key_exact, key_total}
-use Rattle.indexed_rows.specs.Rows.{Table, is_same}
-use Rattle.indexed_rows.proofs.EntryLaws.{same_values}
-use Rattle.indexed_rows.specs.Places.{IsKeyAt}
-use Rattle.indexed_rows.proofs.MapLaws.{slice_get_map}
-use Rattle.recency.specs.Rings.{keys_without, next_key, touched}
+use Rattle.slot_rows.specs.row_types.specs.declared.value.Value.{Value}
+use Rattle.slot_rows.specs.row_types.specs.Order.{key_order}
+use Rattle.slot_rows.specs.row_types.proofs.OrderLaws.{key_exact, key_total}
+use Rattle.slot_rows.specs.indexed_rows.specs.Rows.{Table, is_same}
+use Rattle.slot_rows.specs.indexed_rows.proofs.EntryLaws.{same_values}
+use Rattle.slot_rows.specs.indexed_rows.specs.Places.{IsKeyAt}
+use Rattle.slot_rows.specs.indexed_rows.proofs.MapLaws.{slice_get_map}
+use Rattle.cache_store.specs.recency.specs.Rings.{keys_without, next_key, touched}
 use Rattle.slot_rows.specs.SlotKeys.{IsPlaceOf, RowsHeld, SlotKeys}
 use Rattle.slot_rows.proofs.SlotKeyLaws.{number_itself, same_number}
 use Rattle.cache_store.specs.Tying.{HasOwnKey}

@@ -1,11 +1,11 @@
 -- An instance that becomes other rows.
 use Rattle.std.proofs.Common.{◌≡◌, ℕ, suc, ◌+◌, ◌<◌, cond, true, List, [], ◌∷◌, length, remove, map, slice_get, Some, is_some, refl, sym, ap, subst, ◌∙◌, arith}
 use Rattle.std.specs.FinMap as fm
-use Rattle.row_types.specs.declared.value.Value.{Value}
-use Rattle.tier_base.specs.declared.number.TableId.{TableId}
-use Rattle.indexed_rows.specs.Rows.{Table, key_of, put_in, put_over}
-use Rattle.indexed_rows.proofs.EntryLaws.{get_gone, insert_over}
-use Rattle.instances.specs.Views.{kept_at}
+use Rattle.slot_rows.specs.row_types.specs.declared.value.Value.{Value}
+use Rattle.slot_rows.specs.tier_base.specs.declared.number.TableId.{TableId}
+use Rattle.slot_rows.specs.indexed_rows.specs.Rows.{Table, key_of, put_in, put_over}
+use Rattle.slot_rows.specs.indexed_rows.proofs.EntryLaws.{get_gone, insert_over}
+use Rattle.cache_store.specs.instances.specs.Views.{kept_at}
 use Rattle.cache_store.specs.Operating.{change_at}
 use Rattle.group_store.specs.Recent.{entered_last}
 use Rattle.group_store.specs.declared.tree_rows.ChildRows.{ChildRows}

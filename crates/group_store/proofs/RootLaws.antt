@@ -4,15 +4,15 @@ use Rattle.std.specs.Option.{option_map}
 use Rattle.std.specs.Ordering.{is_lt}
 use Rattle.std.specs.FinMap as fm
 use Rattle.std.specs.FinMap.Entries.{below_all, find}
-use Rattle.row_types.specs.declared.value.Value.{Value}
-use Rattle.row_types.specs.Order.{key_order}
-use Rattle.row_types.proofs.OrderLaws.{key_exact, key_total}
-use Rattle.indexed_rows.specs.Rows.{Table, is_same}
-use Rattle.indexed_rows.proofs.EntryLaws.{same_values}
-use Rattle.table_state.specs.declared.operation.Op.{Op}
-use Rattle.table_state.specs.declared.operation.Op.TheVariants.{Delete, Insert, Update}
-use Rattle.table_state.specs.Operations.{table_of}
-use Rattle.instances.specs.Trees.{same_table}
+use Rattle.slot_rows.specs.row_types.specs.declared.value.Value.{Value}
+use Rattle.slot_rows.specs.row_types.specs.Order.{key_order}
+use Rattle.slot_rows.specs.row_types.proofs.OrderLaws.{key_exact, key_total}
+use Rattle.slot_rows.specs.indexed_rows.specs.Rows.{Table, is_same}
+use Rattle.slot_rows.specs.indexed_rows.proofs.EntryLaws.{same_values}
+use Rattle.cache_store.specs.table_state.specs.declared.operation.Op.{Op}
+use Rattle.cache_store.specs.table_state.specs.declared.operation.Op.TheVariants.{Delete, Insert, Update}
+use Rattle.cache_store.specs.table_state.specs.Operations.{table_of}
+use Rattle.cache_store.specs.instances.specs.Trees.{same_table}
 use Rattle.group_store.specs.Entering.{Keys, entered_by, keys_of_rows, root_entered}
 use Rattle.group_store.specs.Stores.{Kept}
 

@@ -2,23 +2,23 @@
 use Rattle.std.proofs.Common.{◌≡◌, ℕ, zero, suc, Bool, true, false, not, cond, ◌||◌, nat_eq, List, [], ◌∷◌, ◌++◌, length, slice_get, slice_set, Option, Some, None, is_some, refl, sym, ap, subst, ◌∙◌, arith}
 use Rattle.std.specs.Option.{option_and_then, option_map}
 use Rattle.std.specs.FinMap.{contains_key, remove}
-use Rattle.row_types.specs.declared.value.Value.{Value}
-use Rattle.tier_base.specs.declared.number.TableId.{TableId}
-use Rattle.table_defs.specs.declared.definition.TableDef.{TableDef}
-use Rattle.indexed_rows.specs.Rows.{Table, is_same, key_of, put_in, put_over}
-use Rattle.indexed_rows.proofs.EntryLaws.{get_gone, same_values}
-use Rattle.table_state.specs.declared.operation.Op.{Op}
-use Rattle.table_state.specs.declared.operation.Op.TheVariants.{Delete, Insert, Update}
-use Rattle.table_state.specs.Operations.{applied, on_table, table_of as op_table, with_change, with_row, without_row}
-use Rattle.table_state.specs.Sound.{IsTableState}
-use Rattle.table_state.specs.Tables.{TableState, table_at}
-use Rattle.table_state.proofs.SoundLaws.{op_sound}
-use Rattle.instances.specs.declared.tree.Child.{Child}
-use Rattle.instances.specs.declared.tree.Tree.{Tree}
-use Rattle.instances.specs.Roots.{parent_key, root_within}
-use Rattle.instances.specs.Trees.{is_sound, place_of, table_of}
-use Rattle.instances.specs.Views.{kept_at}
-use Rattle.recency.specs.Rings.{keys_without}
+use Rattle.slot_rows.specs.row_types.specs.declared.value.Value.{Value}
+use Rattle.slot_rows.specs.tier_base.specs.declared.number.TableId.{TableId}
+use Rattle.cache_store.specs.table_defs.specs.declared.definition.TableDef.{TableDef}
+use Rattle.slot_rows.specs.indexed_rows.specs.Rows.{Table, is_same, key_of, put_in, put_over}
+use Rattle.slot_rows.specs.indexed_rows.proofs.EntryLaws.{get_gone, same_values}
+use Rattle.cache_store.specs.table_state.specs.declared.operation.Op.{Op}
+use Rattle.cache_store.specs.table_state.specs.declared.operation.Op.TheVariants.{Delete, Insert, Update}
+use Rattle.cache_store.specs.table_state.specs.Operations.{applied, on_table, table_of as op_table, with_change, with_row, without_row}
+use Rattle.cache_store.specs.table_state.specs.Sound.{IsTableState}
+use Rattle.cache_store.specs.table_state.specs.Tables.{TableState, table_at}
+use Rattle.cache_store.specs.table_state.proofs.SoundLaws.{op_sound}
+use Rattle.cache_store.specs.instances.specs.declared.tree.Child.{Child}
+use Rattle.cache_store.specs.instances.specs.declared.tree.Tree.{Tree}
+use Rattle.cache_store.specs.instances.specs.Roots.{parent_key, root_within}
+use Rattle.cache_store.specs.instances.specs.Trees.{is_sound, place_of, table_of}
+use Rattle.cache_store.specs.instances.specs.Views.{kept_at}
+use Rattle.cache_store.specs.recency.specs.Rings.{keys_without}
 use Rattle.cache_store.specs.Growing.{Agree}
 use Rattle.cache_store.specs.Operating.{AppliesAt, IsChosen, change_at}
 use Rattle.cache_store.specs.Shown.{is_among, shown_of}

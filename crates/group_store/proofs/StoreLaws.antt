@@ -2,11 +2,11 @@
 use Rattle.std.proofs.Common.{◌≡◌, ℕ, suc, ◌+◌, Bool, not, cond, nat_lt, arith, List, [], ◌∷◌, length, map, Option, Some, None, refl, sym, ap, subst, ◌∙◌}
 use Rattle.std.proofs.lemmas.List.{length-map}
 use Rattle.std.specs.List.{position, prefix_len}
-use Rattle.row_types.specs.declared.value.Value.{Value}
-use Rattle.tier_base.specs.declared.number.TableId.{TableId}
-use Rattle.table_state.specs.declared.operation.Op.{Op}
-use Rattle.table_state.specs.declared.operation.Op.TheVariants.{Delete, Insert, Update}
-use Rattle.instances.specs.Trees.{same_table}
+use Rattle.slot_rows.specs.row_types.specs.declared.value.Value.{Value}
+use Rattle.slot_rows.specs.tier_base.specs.declared.number.TableId.{TableId}
+use Rattle.cache_store.specs.table_state.specs.declared.operation.Op.{Op}
+use Rattle.cache_store.specs.table_state.specs.declared.operation.Op.TheVariants.{Delete, Insert, Update}
+use Rattle.cache_store.specs.instances.specs.Trees.{same_table}
 use Rattle.group_store.specs.Joined.{layer_of}
 use Rattle.group_store.specs.Stores.{Kept, SameButSpare, at_place, count_all, op_done, ops_done, place_in, put_rows, put_store, put_tables, replace_store, take_store}
 use Rattle.group_store.specs.declared.tree_rows.ChildRows.{ChildRows}

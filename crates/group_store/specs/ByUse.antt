@@ -2,9 +2,9 @@
 -- cache group".)
 use Rattle.std.specs.Prelude.{◌≡◌, List, Option}
 use Rattle.std.specs.FinMap.{get}
-use Rattle.row_types.specs.declared.value.Value.{Value}
-use Rattle.indexed_rows.specs.Rows.{Table}
-use Rattle.instances.specs.Views.{kept_at}
+use Rattle.slot_rows.specs.row_types.specs.declared.value.Value.{Value}
+use Rattle.slot_rows.specs.indexed_rows.specs.Rows.{Table}
+use Rattle.cache_store.specs.instances.specs.Views.{kept_at}
 use Rattle.group_store.specs.Hiding.{hidden_with}
 use Rattle.group_store.specs.Stores.{Kept, SameButSpare, cut_store}
 

@@ -3,12 +3,12 @@
 use Rattle.std.specs.Prelude.{ℕ, List, [], ◌∷◌, ◌++◌, fold, map, not, if◌then◌else◌}
 use Rattle.std.specs.List.{filter, flat_map}
 use Rattle.std.specs.FinMap.{FinMap, empty, entries, from_sorted, insert, keys, remove}
-use Rattle.row_types.specs.Order.{key_order}
-use Rattle.row_types.specs.declared.value.Value.{Value}
-use Rattle.indexed_rows.specs.Rows.{Table, key_of}
-use Rattle.table_state.specs.declared.operation.Op.{Op}
-use Rattle.table_state.specs.declared.operation.Op.TheVariants.{Delete, Insert, Update}
-use Rattle.instances.specs.Trees.{same_table}
+use Rattle.slot_rows.specs.row_types.specs.Order.{key_order}
+use Rattle.slot_rows.specs.row_types.specs.declared.value.Value.{Value}
+use Rattle.slot_rows.specs.indexed_rows.specs.Rows.{Table, key_of}
+use Rattle.cache_store.specs.table_state.specs.declared.operation.Op.{Op}
+use Rattle.cache_store.specs.table_state.specs.declared.operation.Op.TheVariants.{Delete, Insert, Update}
+use Rattle.cache_store.specs.instances.specs.Trees.{same_table}
 use Rattle.cache_store.specs.Shown.{is_among}
 use Rattle.group_store.specs.Stores.{Kept, ops_done}
 

@@ -2,11 +2,11 @@
 -- that a hidden key stays until the next refresh is this project's rule.)
 use Rattle.std.specs.Prelude.{◌≡◌, List, Option, Some, None, Bool, ◌&&◌, ◌||◌}
 use Rattle.std.specs.FinMap.{get, retain_keys}
-use Rattle.row_types.specs.declared.value.Value.{Value}
-use Rattle.indexed_rows.specs.Rows.{Table, is_same, put_in}
-use Rattle.table_state.specs.Tables.{TableState}
-use Rattle.instances.specs.declared.tree.Tree.{Tree}
-use Rattle.instances.specs.Views.{kept_at, root_rows}
+use Rattle.slot_rows.specs.row_types.specs.declared.value.Value.{Value}
+use Rattle.slot_rows.specs.indexed_rows.specs.Rows.{Table, is_same, put_in}
+use Rattle.cache_store.specs.table_state.specs.Tables.{TableState}
+use Rattle.cache_store.specs.instances.specs.declared.tree.Tree.{Tree}
+use Rattle.cache_store.specs.instances.specs.Views.{kept_at, root_rows}
 use Rattle.group_store.specs.Keeping.{KeepsShown}
 use Rattle.group_store.specs.Stores.{Kept}
 

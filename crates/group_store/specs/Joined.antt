@@ -1,11 +1,11 @@
 -- The rows of a tree's tables as they are stored.
 use Rattle.std.specs.Prelude.{◌≡◌, ◌≢◌, ℕ, ◌<◌, ◌≤◌, List, [], ◌∷◌, ◌++◌, Option, Some, None, length, map, min, slice_get}
 use Rattle.std.specs.FinMap.{entries, get, remove}
-use Rattle.row_types.specs.declared.value.Value.{Value}
-use Rattle.indexed_rows.specs.Places.{IsKeyAt}
-use Rattle.indexed_rows.specs.Rows.{Table, is_same, key_of}
-use Rattle.recency.specs.Rings.{keys_without}
-use Rattle.instances.specs.Views.{kept_at}
+use Rattle.slot_rows.specs.row_types.specs.declared.value.Value.{Value}
+use Rattle.slot_rows.specs.indexed_rows.specs.Places.{IsKeyAt}
+use Rattle.slot_rows.specs.indexed_rows.specs.Rows.{Table, is_same, key_of}
+use Rattle.cache_store.specs.recency.specs.Rings.{keys_without}
+use Rattle.cache_store.specs.instances.specs.Views.{kept_at}
 use Rattle.cache_store.specs.Operating.{change_at}
 use Rattle.group_store.specs.Trees.{IsBare, Layer, cut_from, foreign_at, key_at}
 use Rattle.group_store.specs.declared.tree_rows.ChildRows.{ChildRows}

@@ -3,19 +3,19 @@
 use Rattle.std.specs.Prelude.{◌≡◌, ℕ, List, [], ◌∷◌, Some, None, Bool, true, ◌&&◌, ◌||◌, not, map, slice_get, unwrap_or}
 use Rattle.std.specs.Option.{option_map}
 use Rattle.std.specs.FinMap.{values}
-use Rattle.row_types.specs.declared.value.Value.{Value}
-use Rattle.tier_base.specs.declared.number.TableId.{TableId}
-use Rattle.table_defs.specs.declared.definition.TableDef.{TableDef}
-use Rattle.indexed_rows.specs.Rows.{is_same, key_of}
-use Rattle.table_state.specs.declared.operation.Op.{Op}
-use Rattle.table_state.specs.declared.operation.Op.TheVariants.{Delete, Insert, Update}
-use Rattle.table_state.specs.Operations.{applied, table_of as op_table}
-use Rattle.table_state.specs.Sound.{IsTableState}
-use Rattle.table_state.specs.Tables.{TableState}
-use Rattle.instances.specs.declared.tree.Child.{Child}
-use Rattle.instances.specs.declared.tree.Tree.{Tree}
-use Rattle.instances.specs.Trees.{is_sound, place_of}
-use Rattle.instances.specs.Views.{instance_of}
+use Rattle.slot_rows.specs.row_types.specs.declared.value.Value.{Value}
+use Rattle.slot_rows.specs.tier_base.specs.declared.number.TableId.{TableId}
+use Rattle.cache_store.specs.table_defs.specs.declared.definition.TableDef.{TableDef}
+use Rattle.slot_rows.specs.indexed_rows.specs.Rows.{is_same, key_of}
+use Rattle.cache_store.specs.table_state.specs.declared.operation.Op.{Op}
+use Rattle.cache_store.specs.table_state.specs.declared.operation.Op.TheVariants.{Delete, Insert, Update}
+use Rattle.cache_store.specs.table_state.specs.Operations.{applied, table_of as op_table}
+use Rattle.cache_store.specs.table_state.specs.Sound.{IsTableState}
+use Rattle.cache_store.specs.table_state.specs.Tables.{TableState}
+use Rattle.cache_store.specs.instances.specs.declared.tree.Child.{Child}
+use Rattle.cache_store.specs.instances.specs.declared.tree.Tree.{Tree}
+use Rattle.cache_store.specs.instances.specs.Trees.{is_sound, place_of}
+use Rattle.cache_store.specs.instances.specs.Views.{instance_of}
 use Rattle.cache_store.specs.Operating.{IsChosen}
 use Rattle.cache_store.specs.Shown.{is_among, shown_of}
 use Rattle.group_store.specs.Trees.{Layer}

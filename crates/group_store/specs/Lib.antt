@@ -9,3 +9,12 @@ pub mod Recent
 pub mod Shown
 pub mod Stores
 pub mod Trees
+pub use Rattle.cache_store.specs.recency
+pub use Rattle.slot_rows.specs.tier_base
+pub use Rattle.slot_rows.specs.row_types
+pub use Rattle.cache_store.specs.table_defs
+pub use Rattle.slot_rows.specs.indexed_rows
+pub use Rattle.slot_rows
+pub use Rattle.cache_store.specs.table_state
+pub use Rattle.cache_store.specs.instances
+pub use Rattle.cache_store

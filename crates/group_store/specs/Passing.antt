@@ -1,9 +1,9 @@
 -- Rows that pass a test of their place and key, and lead to a row.
 use Rattle.std.specs.Prelude.{◌≡◌, ℕ, suc, ◌+◌, ◌≤◌, List, Some, Bool, MatchBool, true, false, length, slice_get}
 use Rattle.std.specs.FinMap.{contains_key, get}
-use Rattle.row_types.specs.declared.value.Value.{Value}
-use Rattle.indexed_rows.specs.Rows.{Table, key_of}
-use Rattle.instances.specs.Views.{kept_at}
+use Rattle.slot_rows.specs.row_types.specs.declared.value.Value.{Value}
+use Rattle.slot_rows.specs.indexed_rows.specs.Rows.{Table, key_of}
+use Rattle.cache_store.specs.instances.specs.Views.{kept_at}
 use Rattle.group_store.specs.Trees.{Layer, leads}
 use Rattle.group_store.specs.Joined.{layers_of, tables_of}
 use Rattle.group_store.specs.declared.tree_rows.TreeRows.{TreeRows}

@@ -4,11 +4,11 @@ use Rattle.std.specs.Prelude.{◌≡◌, ℕ, List, [], ◌∷◌, ◌++◌, Opt
 use Rattle.std.specs.List.{filter, list_any}
 use Rattle.std.specs.Coded.{Coded, code_by, coded×, coded_list, coded_ℕ}
 use Rattle.std.specs.FinMap as fm
-use Rattle.row_types.specs.declared.value.Value.{Value}
-use Rattle.row_types.specs.contracts.value.Value as one
-use Rattle.indexed_rows.specs.Places.{IsKeyAt}
-use Rattle.indexed_rows.specs.Rows.{Table, is_same}
-use Rattle.recency.specs.Rings.{keys_without}
+use Rattle.slot_rows.specs.row_types.specs.declared.value.Value.{Value}
+use Rattle.slot_rows.specs.row_types.specs.contracts.value.Value as one
+use Rattle.slot_rows.specs.indexed_rows.specs.Places.{IsKeyAt}
+use Rattle.slot_rows.specs.indexed_rows.specs.Rows.{Table, is_same}
+use Rattle.cache_store.specs.recency.specs.Rings.{keys_without}
 use Rattle.slot_rows.specs.SlotKeys.{RowsHeld, SlotKeys}
 
 -- what clauses see: the rows by key, the columns of the key, those of the foreign key, the keys with the oldest first,

@@ -3,12 +3,12 @@
 use Rattle.std.specs.Prelude.{◌≡◌, ℕ, zero, suc, ◌≤◌, List, [], ◌∷◌, Option, Some, None, length, slice_get, unwrap_or}
 use Rattle.std.specs.Option.{option_map, option_or}
 use Rattle.std.specs.FinMap.{empty}
-use Rattle.tier_base.specs.declared.number.TableId.{TableId}
-use Rattle.table_defs.specs.declared.definition.TableDef.{TableDef}
-use Rattle.table_defs.specs.Declarations.{foreign_places}
-use Rattle.indexed_rows.specs.Rows.{Table}
-use Rattle.table_state.specs.Tables.{TableState, table_at}
-use Rattle.instances.specs.Views.{kept_at}
+use Rattle.slot_rows.specs.tier_base.specs.declared.number.TableId.{TableId}
+use Rattle.cache_store.specs.table_defs.specs.declared.definition.TableDef.{TableDef}
+use Rattle.cache_store.specs.table_defs.specs.Declarations.{foreign_places}
+use Rattle.slot_rows.specs.indexed_rows.specs.Rows.{Table}
+use Rattle.cache_store.specs.table_state.specs.Tables.{TableState, table_at}
+use Rattle.cache_store.specs.instances.specs.Views.{kept_at}
 use Rattle.group_store.specs.Stores.{Kept, foreign_columns, place_in}
 use Rattle.group_store.specs.declared.directory.Home.{Home}
 

@@ -4,15 +4,15 @@ use Rattle.std.specs.Prelude.{◌≡◌, ℕ, suc, List, [], ◌∷◌, ◌++◌
 use Rattle.std.specs.Option.{option_map}
 use Rattle.std.specs.Coded.{Coded, code_by, coded×, coded_list, coded_ℕ}
 use Rattle.std.specs.FinMap as fm
-use Rattle.row_types.specs.declared.value.Value.{Value}
-use Rattle.tier_base.specs.declared.number.TableId.{TableId}
-use Rattle.tier_base.specs.contracts.number.TableId as id
-use Rattle.indexed_rows.specs.Rows.{Table, is_same, key_of, put_in, put_over}
-use Rattle.table_state.specs.declared.operation.Op.{Op}
-use Rattle.table_state.specs.declared.operation.Op.TheVariants.{Delete, Insert, Update}
-use Rattle.instances.specs.Trees.{same_table}
-use Rattle.instances.specs.Views.{kept_at}
-use Rattle.recency.specs.Rings.{keys_without, touched}
+use Rattle.slot_rows.specs.row_types.specs.declared.value.Value.{Value}
+use Rattle.slot_rows.specs.tier_base.specs.declared.number.TableId.{TableId}
+use Rattle.slot_rows.specs.tier_base.specs.contracts.number.TableId as id
+use Rattle.slot_rows.specs.indexed_rows.specs.Rows.{Table, is_same, key_of, put_in, put_over}
+use Rattle.cache_store.specs.table_state.specs.declared.operation.Op.{Op}
+use Rattle.cache_store.specs.table_state.specs.declared.operation.Op.TheVariants.{Delete, Insert, Update}
+use Rattle.cache_store.specs.instances.specs.Trees.{same_table}
+use Rattle.cache_store.specs.instances.specs.Views.{kept_at}
+use Rattle.cache_store.specs.recency.specs.Rings.{keys_without, touched}
 use Rattle.cache_store.specs.Operating.{change_at}
 use Rattle.cache_store.specs.Shown.{is_among}
 use Rattle.group_store.specs.Recent.{entered_last, row_code}

@@ -3,11 +3,11 @@
 use Rattle.std.specs.Prelude.{◌≡◌, ◌≢◌, ℕ, zero, suc, ◌+◌, ◌<◌, ◌≤◌, List, [], ◌∷◌, Option, Some, None, Bool, true, false, ◌⊎◌, ◌&&◌, ◌||◌, not, map, nat_eq, length, slice_get, unwrap_or}
 use Rattle.std.specs.Option.{option_and_then, option_map}
 use Rattle.std.specs.FinMap.{contains_key, empty, entries, get, retain_keys}
-use Rattle.row_types.specs.declared.value.Value.{Value}
-use Rattle.tier_base.specs.declared.number.TableId.{TableId}
-use Rattle.indexed_rows.specs.Places.{IsKeyAt}
-use Rattle.indexed_rows.specs.Rows.{Table, is_same, key_of}
-use Rattle.instances.specs.Views.{kept_at}
+use Rattle.slot_rows.specs.row_types.specs.declared.value.Value.{Value}
+use Rattle.slot_rows.specs.tier_base.specs.declared.number.TableId.{TableId}
+use Rattle.slot_rows.specs.indexed_rows.specs.Places.{IsKeyAt}
+use Rattle.slot_rows.specs.indexed_rows.specs.Rows.{Table, is_same, key_of}
+use Rattle.cache_store.specs.instances.specs.Views.{kept_at}
 
 -- A child table of a tree: its id, the columns of its primary and of its foreign key, and the place of the table that
 -- the foreign key refers to. The root has place 0, and the children the places from 1 on.

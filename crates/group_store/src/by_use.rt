@@ -2,17 +2,17 @@
 
 ghost use Rattle.std.specs.Prelude.{◌≡◌, ◌≤◌, ◌<◌, ◌+◌, List, None, slice_get};
 ghost use Rattle.std.specs.FinMap as map;
-ghost use Rattle.recency.specs.Rings.{next_key};
-ghost use Rattle.indexed_rows.specs.Places.{IsKeyAt};
-ghost use Rattle.indexed_rows.specs.Rows.{is_same};
-ghost use Rattle.row_types.specs.declared.value.Value.{Value as OneValue};
-ghost use Rattle.instances.specs.Views.{kept_at};
+ghost use Rattle.cache_store.specs.recency.specs.Rings.{next_key};
+ghost use Rattle.slot_rows.specs.indexed_rows.specs.Places.{IsKeyAt};
+ghost use Rattle.slot_rows.specs.indexed_rows.specs.Rows.{is_same};
+ghost use Rattle.slot_rows.specs.row_types.specs.declared.value.Value.{Value as OneValue};
+ghost use Rattle.cache_store.specs.instances.specs.Views.{kept_at};
 ghost use Rattle.group_store.specs.Recent.{StandsAt};
 ghost use Rattle.group_store.specs.ByUse.{HidesInstance, TakesInstance};
 
 use crate::store::Store;
-use row_types::Row;
 use slot_rows::SlotRows;
+use slot_rows::row_types::Row;
 
 impl Store {
     /// The place in key order of the root row that was not used for longest. It takes no memory.

@@ -4,10 +4,10 @@ ghost use Rattle.std.specs.Prelude.{◌≡◌, ◌++◌, IfOk};
 ghost use Rattle.slot_rows.specs.Orders.{place_from};
 ghost use Rattle.group_store.specs.Recent.{orders_for};
 
-use row_types::Value;
 use slot_rows::SlotRows;
+use slot_rows::row_types::Value;
+use slot_rows::tier_base::Seq;
 use std::alloc::{AllocError, Global};
-use tier_base::Seq;
 
 // Some columns and then others.
 pub(crate) fn joined(

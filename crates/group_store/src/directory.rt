@@ -5,9 +5,9 @@ ghost use Rattle.std.specs.Option.{option_and_then};
 ghost use Rattle.group_store.specs.Shown.{home_from, home_of, homes_of};
 
 use crate::store::Store;
+use slot_rows::tier_base::TableId;
 use std::alloc::{AllocError, Global};
 use std::marker::Model;
-use tier_base::TableId;
 
 /// Where a table is kept: the number of its store among all, and its place in the store's tree.
 #[derive(Clone, Copy)]

@@ -2,11 +2,11 @@
 
 ghost use Rattle.std.specs.Prelude.{◌≡◌, ◌≤◌, ◌<◌, ◌++◌, List, [], ◌∷◌, Bool, Some, false, length};
 ghost use Rattle.std.specs.FinMap as map;
-ghost use Rattle.indexed_rows.specs.Places.{IsKeyAt};
-ghost use Rattle.indexed_rows.specs.Rows.{key_of};
-ghost use Rattle.row_types.specs.declared.value.Value.{Value as OneValue};
-ghost use Rattle.tier_base.specs.declared.number.TableId.{TableId as OneTable};
-ghost use Rattle.instances.specs.Views.{kept_at};
+ghost use Rattle.slot_rows.specs.indexed_rows.specs.Places.{IsKeyAt};
+ghost use Rattle.slot_rows.specs.indexed_rows.specs.Rows.{key_of};
+ghost use Rattle.slot_rows.specs.row_types.specs.declared.value.Value.{Value as OneValue};
+ghost use Rattle.slot_rows.specs.tier_base.specs.declared.number.TableId.{TableId as OneTable};
+ghost use Rattle.cache_store.specs.instances.specs.Views.{kept_at};
 ghost use Rattle.slot_rows.specs.Orders.{place_from};
 ghost use Rattle.group_store.specs.Held.{held_at, id_at, is_instance_held};
 ghost use Rattle.group_store.specs.Joined.{AreJoined, layers_of, places_at, tables_of};
@@ -14,8 +14,8 @@ ghost use Rattle.group_store.specs.Passing.{TellsBy, TellsPassing};
 
 use crate::store::Store;
 use crate::tree_rows::{ChildRows, TreeRows};
-use row_types::Row;
-use tier_base::TableId;
+use slot_rows::row_types::Row;
+use slot_rows::tier_base::TableId;
 
 /// Tells which keys are held, as by open transactions. It takes no memory.
 pub trait Holds {

@@ -1,7 +1,7 @@
 //! Laws of the definitions, each on the contract of a function that does nothing.
 
-ghost use Rattle.table_state.specs.Tables.{TableState};
-ghost use Rattle.instances.specs.declared.tree.Tree.{Tree};
+ghost use Rattle.cache_store.specs.table_state.specs.Tables.{TableState};
+ghost use Rattle.cache_store.specs.instances.specs.declared.tree.Tree.{Tree};
 ghost use Rattle.group_store.specs.Hiding.{HidesOne};
 ghost use Rattle.group_store.specs.Keeping.{KeepsOneMore, KeepsOthers, KeepsPace};
 

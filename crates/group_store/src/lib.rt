@@ -11,8 +11,11 @@ mod shown;
 mod store;
 mod tree_rows;
 
+pub use cache_store::{instances, table_defs, table_state};
 pub use directory::{Directory, Home};
 pub use held::Holds;
 pub use recent::RecentRows;
 pub use shown::Shown;
+pub use slot_rows;
+pub use slot_rows::{indexed_rows, row_types, tier_base};
 pub use store::Store;

@@ -3,21 +3,21 @@
 ghost use Rattle.std.specs.Prelude.{◌≡◌, ◌≤◌, ◌<◌, ◌+◌, ◌^◌, ◌++◌, List, [], ◌∷◌, Some, true, IfOk, OnOk, length, option_copied, slice_get};
 ghost use Rattle.std.specs.Option.{option_and_then};
 ghost use Rattle.std.specs.FinMap as map;
-ghost use Rattle.recency.specs.Rings.{keys_without, next_key, touched};
-ghost use Rattle.indexed_rows.specs.Rows.{is_same, key_of, put_in, put_over};
-ghost use Rattle.indexed_rows.specs.Places.{IsKeyAt};
-ghost use Rattle.row_types.specs.declared.value.Value.{Value as OneValue};
+ghost use Rattle.cache_store.specs.recency.specs.Rings.{keys_without, next_key, touched};
+ghost use Rattle.slot_rows.specs.indexed_rows.specs.Rows.{is_same, key_of, put_in, put_over};
+ghost use Rattle.slot_rows.specs.indexed_rows.specs.Places.{IsKeyAt};
+ghost use Rattle.slot_rows.specs.row_types.specs.declared.value.Value.{Value as OneValue};
 ghost use Rattle.slot_rows.specs.SlotKeys.{IsKeyedBy};
 ghost use Rattle.slot_rows.specs.Orders.{place_from};
 ghost use Rattle.group_store.specs.Recent.{HasItsKeys, HasNoRows, HasOrders, IsRowPlace, LosesRecent, TakesRecent, StandsAt, entered_last};
 
 use crate::columns::{joined, place_of_child};
-use recency::Recency;
-use row_types::{Row, Value};
+use cache_store::recency::Recency;
 use slot_rows::SlotRows;
+use slot_rows::row_types::{Row, Value};
+use slot_rows::tier_base::Seq;
 use std::alloc::{AllocError, Global};
 use std::marker::Model;
-use tier_base::Seq;
 
 /// The rows of a root table by primary key, and the keys in the order of last use. Clauses see the rows by key, the
 /// columns of the key, those of the foreign key, the keys with the one first that was not used for longest, and how

@@ -2,15 +2,15 @@
 
 ghost use Rattle.std.specs.Prelude.{◌≡◌, MatchOption};
 ghost use Rattle.std.specs.FinMap as map;
-ghost use Rattle.table_state.specs.Tables.{table_at};
+ghost use Rattle.cache_store.specs.table_state.specs.Tables.{table_at};
 ghost use Rattle.group_store.specs.Shown.{AreHoused, ShowsTable, shown_by};
 
 use crate::directory::{Directory, Home};
 use crate::store::Store;
-use row_types::{Key, Row};
-use table_defs::BackingSchema;
-use table_state::Scan;
-use tier_base::TableId;
+use cache_store::table_defs::BackingSchema;
+use cache_store::table_state::Scan;
+use slot_rows::row_types::{Key, Row};
+use slot_rows::tier_base::TableId;
 
 /// What the stores of all groups show: each table of the schema with the rows that its store keeps. A table of no store
 /// has no rows. Nothing is copied, and no call takes memory.

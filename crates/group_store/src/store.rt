@@ -3,11 +3,11 @@
 ghost use Rattle.std.specs.Prelude.{◌≡◌, ◌≤◌, ◌<◌, ◌+◌, ◌^◌, ◌++◌, [], ◌∷◌, Some, IfOk, IfSome, OnErr, OnOk, length, option_copied, position, slice_get, true};
 ghost use Rattle.std.specs.Option.{option_and_then};
 ghost use Rattle.std.specs.FinMap as map;
-ghost use Rattle.recency.specs.Rings.{keys_without, next_key};
-ghost use Rattle.indexed_rows.specs.Rows.{is_same, key_of};
-ghost use Rattle.table_state.specs.Operations.{table_of};
-ghost use Rattle.instances.specs.Trees.{same_table};
-ghost use Rattle.instances.specs.Views.{kept_at};
+ghost use Rattle.cache_store.specs.recency.specs.Rings.{keys_without, next_key};
+ghost use Rattle.slot_rows.specs.indexed_rows.specs.Rows.{is_same, key_of};
+ghost use Rattle.cache_store.specs.table_state.specs.Operations.{table_of};
+ghost use Rattle.cache_store.specs.instances.specs.Trees.{same_table};
+ghost use Rattle.cache_store.specs.instances.specs.Views.{kept_at};
 ghost use Rattle.slot_rows.specs.Orders.{place_from};
 ghost use Rattle.slot_rows.specs.SlotKeys.{IsKeyedBy};
 ghost use Rattle.group_store.specs.Trees.{key_at};
@@ -18,13 +18,13 @@ ghost use Rattle.group_store.specs.Stores.{AddsChild, HasRootKeys, IsInstanceUnd
 use crate::columns::joined;
 use crate::recent::RecentRows;
 use crate::tree_rows::{ChildRows, TreeRows};
-use indexed_rows::{Rows, key_at};
-use row_types::{Key, Row};
+use cache_store::table_state::{Op, Ops};
 use slot_rows::SlotRows;
+use slot_rows::indexed_rows::{Rows, key_at};
+use slot_rows::row_types::{Key, Row};
+use slot_rows::tier_base::{Seq, TableId};
 use std::alloc::{AllocError, Global};
 use std::marker::Model;
-use table_state::{Op, Ops};
-use tier_base::{Seq, TableId};
 
 /// What a cache group keeps: the rows of the tables of its tree, and its root keys in the order of last use. Clauses
 /// see the tables by place of the tree, the root's first, each by primary key; the root keys, with the one first that

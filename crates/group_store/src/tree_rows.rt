@@ -2,11 +2,11 @@
 
 ghost use Rattle.std.specs.Prelude.{◌≡◌, ◌≤◌, ◌<◌, ◌+◌, ◌^◌, ◌++◌, ◌∷◌, [], List, Some, slice_get, MatchOption, OnOk, length, option_copied, if◌then◌else◌, nat_eq};
 ghost use Rattle.std.specs.FinMap as map;
-ghost use Rattle.indexed_rows.specs.Rows.{is_same, key_of, put_in, put_over};
-ghost use Rattle.indexed_rows.specs.Places.{IsKeyAt};
-ghost use Rattle.row_types.specs.declared.value.Value.{Value as OneValue};
-ghost use Rattle.instances.specs.Views.{kept_at};
-ghost use Rattle.recency.specs.Rings.{keys_without};
+ghost use Rattle.slot_rows.specs.indexed_rows.specs.Rows.{is_same, key_of, put_in, put_over};
+ghost use Rattle.slot_rows.specs.indexed_rows.specs.Places.{IsKeyAt};
+ghost use Rattle.slot_rows.specs.row_types.specs.declared.value.Value.{Value as OneValue};
+ghost use Rattle.cache_store.specs.instances.specs.Views.{kept_at};
+ghost use Rattle.cache_store.specs.recency.specs.Rings.{keys_without};
 ghost use Rattle.cache_store.specs.Operating.{change_at};
 ghost use Rattle.slot_rows.specs.Orders.{place_from};
 ghost use Rattle.slot_rows.specs.SlotKeys.{IsKeyedBy};
@@ -16,10 +16,10 @@ ghost use Rattle.group_store.specs.Joined.{AreJoined, CutsRoot, IsBared, IsRowOf
 
 use crate::columns::place_of_child;
 use crate::recent::RecentRows;
-use row_types::{Row, Value};
 use slot_rows::SlotRows;
+use slot_rows::row_types::{Row, Value};
+use slot_rows::tier_base::{Seq, TableId};
 use std::alloc::{AllocError, Global};
-use tier_base::{Seq, TableId};
 
 // The rows of a child table, with an order of them by parent.
 pub(crate) struct ChildRows {

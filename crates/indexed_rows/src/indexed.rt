@@ -7,10 +7,10 @@ ghost use Rattle.indexed_rows.specs.Rows.{put_in, put_over, first_from, has_key}
 use crate::copy::copied_rows;
 use crate::parents::{Parents, insert_both, put_back_both, remove_both, replace_both, walked};
 use crate::{Rows, Spare};
+use row_types::tier_base::Seq;
 use row_types::{Key, Row};
 use std::alloc::{AllocError, Global};
 use std::marker::Model;
-use tier_base::Seq;
 
 /// The rows of a table, with an index by parent where it has a foreign key. Clauses see the rows.
 ///

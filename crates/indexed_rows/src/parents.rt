@@ -9,9 +9,9 @@ use crate::copy::copied_rows;
 use crate::keys::values_at;
 use crate::values::{first_change, has_key, is_same_values};
 use crate::{Rows, Spare};
+use row_types::tier_base::Seq;
 use row_types::{Key, Row, Value};
 use std::alloc::{AllocError, Global};
-use tier_base::Seq;
 
 /// An index of the rows of a table by parent.
 pub(crate) struct Parents {

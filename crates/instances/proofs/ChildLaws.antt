@@ -1,9 +1,9 @@
 -- Laws of going through the children of a tree.
 use Rattle.std.proofs.Common.{◌≡◌, ℕ, zero, suc, ◌+◌, ◌<◌, ◌&&◌, Option, Some, Result, IfOk, List, [], ◌∷◌, ◌++◌, length, drop, slice_get, get_or, refl, sym, ap, ◌∙◌, arith}
-use Rattle.table_defs.specs.declared.definition.TableDef.{TableDef}
-use Rattle.indexed_rows.specs.Rows.{Table}
+use Rattle.table_state.specs.table_defs.specs.declared.definition.TableDef.{TableDef}
+use Rattle.table_state.specs.indexed_rows.specs.Rows.{Table}
 use Rattle.table_state.specs.Tables.{TableState, table_at}
-use Rattle.indexed_rows.proofs.FirstLaws.{drop_at}
+use Rattle.table_state.specs.indexed_rows.proofs.FirstLaws.{drop_at}
 use Rattle.instances.specs.declared.tree.Child.{Child}
 use Rattle.instances.specs.Views.{child_rows, is_kept, kept_at, refers_to_one, rows_where, selects, with_children}
 use Rattle.instances.proofs.OnlyLaws.{if_ok}

@@ -5,12 +5,12 @@ use Rattle.std.proofs.lemmas.Bool.{cases_lt}
 use Rattle.std.proofs.lemmas.List.{length-map}
 use Rattle.std.proofs.lemmas.Option.{slice_get_within}
 use borrow.Author.Count.{below_more}
-use Rattle.row_types.specs.declared.value.Value.{Value}
-use Rattle.row_types.specs.Order.{key_order}
-use Rattle.table_defs.specs.declared.definition.TableDef.{TableDef}
-use Rattle.table_defs.specs.Declarations.{foreign_places}
-use Rattle.indexed_rows.specs.Rows.{Table, first_from, has_key, key_of}
-use Rattle.indexed_rows.proofs.EntryLaws.{at_has, dropped_at, has_at, mapped_at, same_itself, same_values, some_of}
+use Rattle.expressions.specs.row_types.specs.declared.value.Value.{Value}
+use Rattle.expressions.specs.row_types.specs.Order.{key_order}
+use Rattle.table_state.specs.table_defs.specs.declared.definition.TableDef.{TableDef}
+use Rattle.table_state.specs.table_defs.specs.Declarations.{foreign_places}
+use Rattle.table_state.specs.indexed_rows.specs.Rows.{Table, first_from, has_key, key_of}
+use Rattle.table_state.specs.indexed_rows.proofs.EntryLaws.{at_has, dropped_at, has_at, mapped_at, same_itself, same_values, some_of}
 use Rattle.table_state.specs.Children.{refers_to}
 use Rattle.table_state.specs.Tables.{TableState, table_at}
 use Rattle.instances.specs.declared.tree.Child.{Child}

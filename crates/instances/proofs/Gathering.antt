@@ -7,10 +7,10 @@ use Rattle.std.specs.Cmp.{eq_by_cmp_equiv}
 use Rattle.std.specs.FinMap.Entries.{below_all}
 use Rattle.std.specs.FinMap.{contains_key, empty, entries, entries_sorted, find, get, insert, is_sorted, len, len-entries, get-empty, get-entries, get-insert, get-retain_keys, same_map}
 use borrow.Author.Count.{below_more}
-use Rattle.row_types.specs.declared.value.Value.{Value}
-use Rattle.row_types.specs.Order.{key_order}
-use Rattle.row_types.proofs.OrderLaws.{key_total, key_exact}
-use Rattle.indexed_rows.specs.Rows.{Table}
+use Rattle.expressions.specs.row_types.specs.declared.value.Value.{Value}
+use Rattle.expressions.specs.row_types.specs.Order.{key_order}
+use Rattle.expressions.specs.row_types.proofs.OrderLaws.{key_total, key_exact}
+use Rattle.table_state.specs.indexed_rows.specs.Rows.{Table}
 use Rattle.instances.specs.Collecting.{Gathers, added}
 use Rattle.instances.specs.Views.{passes, rows_where}
 

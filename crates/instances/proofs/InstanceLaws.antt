@@ -6,12 +6,12 @@ use Rattle.std.specs.Ordering.{is_eq}
 use Rattle.std.specs.Cmp.{eq_by_cmp_equiv}
 use Rattle.std.specs.declared.cmp.Ordering.{Ordering}
 use Rattle.std.specs.declared.cmp.Ordering.TheVariants.{Less, Equal, Greater}
-use Rattle.row_types.specs.declared.value.Value.{Value}
-use Rattle.row_types.specs.Order.{key_order}
-use Rattle.row_types.proofs.OrderLaws.{key_total, key_exact}
-use Rattle.table_defs.specs.declared.definition.TableDef.{TableDef}
-use Rattle.table_defs.specs.Declarations.{foreign_places}
-use Rattle.indexed_rows.specs.Rows.{Table, is_same, key_of}
+use Rattle.expressions.specs.row_types.specs.declared.value.Value.{Value}
+use Rattle.expressions.specs.row_types.specs.Order.{key_order}
+use Rattle.expressions.specs.row_types.proofs.OrderLaws.{key_total, key_exact}
+use Rattle.table_state.specs.table_defs.specs.declared.definition.TableDef.{TableDef}
+use Rattle.table_state.specs.table_defs.specs.Declarations.{foreign_places}
+use Rattle.table_state.specs.indexed_rows.specs.Rows.{Table, is_same, key_of}
 use Rattle.table_state.specs.Tables.{TableState, table_at}
 use Rattle.instances.specs.declared.tree.Child.{Child}
 use Rattle.instances.specs.declared.tree.Tree.{Tree}

@@ -4,10 +4,10 @@ use Rattle.std.specs.Ordering.{is_eq}
 use Rattle.std.specs.declared.cmp.Ordering.{Ordering}
 use Rattle.std.specs.declared.cmp.Ordering.TheVariants.{Less, Equal, Greater}
 use Rattle.std.specs.FinMap.{empty, get, insert, get-empty, get-insert, get-retain_keys, same_map}
-use Rattle.row_types.specs.declared.value.Value.{Value}
-use Rattle.row_types.specs.Order.{key_order}
-use Rattle.row_types.proofs.OrderLaws.{key_total, key_exact}
-use Rattle.indexed_rows.specs.Rows.{Table, is_same}
+use Rattle.expressions.specs.row_types.specs.declared.value.Value.{Value}
+use Rattle.expressions.specs.row_types.specs.Order.{key_order}
+use Rattle.expressions.specs.row_types.proofs.OrderLaws.{key_total, key_exact}
+use Rattle.table_state.specs.indexed_rows.specs.Rows.{Table, is_same}
 use Rattle.instances.specs.Collecting.{added}
 use Rattle.instances.specs.Views.{only, passes, rows_where}
 use Rattle.instances.proofs.Gathering.{get_where}

@@ -2,8 +2,8 @@
 
 use Rattle.std.specs.Prelude.{◌≡◌, ◌⊎◌, ℕ, ◌<◌, List, Bool, true, ◌&&◌, Some, slice_get, if◌then◌else◌}
 use Rattle.std.specs.FinMap.{contains_key, entries, get, insert, len}
-use Rattle.row_types.specs.declared.value.Value.{Value}
-use Rattle.indexed_rows.specs.Rows.{Table}
+use Rattle.expressions.specs.row_types.specs.declared.value.Value.{Value}
+use Rattle.table_state.specs.indexed_rows.specs.Rows.{Table}
 use Rattle.table_state.specs.Children.{refers_to}
 use Rattle.table_state.specs.Tables.{TableState, table_at}
 use Rattle.instances.specs.declared.tree.Child.{Child}

@@ -2,8 +2,8 @@
 
 use Rattle.std.specs.Prelude.{◌≡◌, ℕ, List, Some}
 use Rattle.std.specs.FinMap.{get}
-use Rattle.row_types.specs.declared.value.Value.{Value}
-use Rattle.indexed_rows.specs.Rows.{Table}
+use Rattle.expressions.specs.row_types.specs.declared.value.Value.{Value}
+use Rattle.table_state.specs.indexed_rows.specs.Rows.{Table}
 use Rattle.table_state.specs.Tables.{TableState}
 use Rattle.instances.specs.declared.tree.Tree.{Tree}
 use Rattle.instances.specs.Roots.{root_at}

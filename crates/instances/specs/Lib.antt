@@ -3,3 +3,8 @@ pub mod Instances
 pub mod Roots
 pub mod Trees
 pub mod Views
+pub use Rattle.expressions.specs.tier_base
+pub use Rattle.expressions.specs.row_types
+pub use Rattle.table_state.specs.table_defs
+pub use Rattle.table_state.specs.indexed_rows
+pub use Rattle.table_state

@@ -4,9 +4,9 @@
 
 use Rattle.std.specs.Prelude.{ℕ, zero, suc, List, [], ◌∷◌, Option, Some, None, Bool, true, false, ◌&&◌, nat_eq, nat_le, is_some, position, slice_get, if◌then◌else◌}
 use Rattle.std.specs.Option.{option_and_then, option_map}
-use Rattle.tier_base.specs.declared.number.TableId.{TableId}
-use Rattle.table_defs.specs.declared.definition.TableDef.{TableDef}
-use Rattle.table_defs.specs.declared.definition.ForeignKey.{ForeignKey}
+use Rattle.expressions.specs.tier_base.specs.declared.number.TableId.{TableId}
+use Rattle.table_state.specs.table_defs.specs.declared.definition.TableDef.{TableDef}
+use Rattle.table_state.specs.table_defs.specs.declared.definition.ForeignKey.{ForeignKey}
 use Rattle.instances.specs.declared.tree.Child.{Child}
 use Rattle.instances.specs.declared.tree.Tree.{Tree}
 

@@ -3,12 +3,12 @@
 
 use Rattle.std.specs.Prelude.{ℕ, List, [], ◌∷◌, ◌++◌, Option, Some, None, Bool, true, false, ◌&&◌, slice_get, unwrap_or}
 use Rattle.std.specs.FinMap.{empty, contains_key, get, retain_keys}
-use Rattle.row_types.specs.declared.truth.Truth.{Truth}
-use Rattle.row_types.specs.declared.truth.Truth.TheVariants.{True, False, Unknown}
-use Rattle.row_types.specs.declared.value.Value.{Value}
-use Rattle.table_defs.specs.declared.definition.TableDef.{TableDef}
-use Rattle.table_defs.specs.Declarations.{foreign_places}
-use Rattle.indexed_rows.specs.Rows.{Table, is_same, key_of}
+use Rattle.expressions.specs.row_types.specs.declared.truth.Truth.{Truth}
+use Rattle.expressions.specs.row_types.specs.declared.truth.Truth.TheVariants.{True, False, Unknown}
+use Rattle.expressions.specs.row_types.specs.declared.value.Value.{Value}
+use Rattle.table_state.specs.table_defs.specs.declared.definition.TableDef.{TableDef}
+use Rattle.table_state.specs.table_defs.specs.Declarations.{foreign_places}
+use Rattle.table_state.specs.indexed_rows.specs.Rows.{Table, is_same, key_of}
 use Rattle.table_state.specs.Tables.{TableState, table_at}
 use Rattle.expressions.specs.declared.condition.Cond.{Cond}
 use Rattle.expressions.specs.Conditions.{holds}

@@ -2,16 +2,16 @@
 
 ghost use Rattle.std.specs.Prelude.{◌≡◌, ◌&&◌, IfOk, OnOk, option_copied, slice_get, unwrap_or};
 ghost use Rattle.std.specs.FinMap as map;
-ghost use Rattle.table_defs.specs.Declarations.{foreign_places};
+ghost use Rattle.table_state.specs.table_defs.specs.Declarations.{foreign_places};
 ghost use Rattle.instances.specs.Collecting.{added};
 ghost use Rattle.instances.specs.Views.{child_rows, kept_at, only, refers_to_one, root_rows, rows_where, selects};
 
 use crate::tree::{Child, Root};
+use expressions::row_types::{Key, Row, Truth};
 use expressions::{Cond, truth_on};
-use indexed_rows::{Rows, key_at};
-use row_types::{Key, Row, Truth};
 use std::alloc::{AllocError, Global};
-use table_defs::{ForeignKey, TableDef};
+use table_state::indexed_rows::{Rows, key_at};
+use table_state::table_defs::{ForeignKey, TableDef};
 use table_state::{Scan, Tables};
 
 /// The rows of the root table that its WHERE selects.

@@ -7,10 +7,10 @@ ghost use Rattle.instances.specs.Views.{child_rows, kept_at};
 
 use crate::collecting::{add_copy, kept_at, or_none, selects};
 use crate::tree::Child;
-use indexed_rows::Rows;
-use row_types::Key;
+use expressions::row_types::Key;
 use std::alloc::{AllocError, Global};
 use table_state::Tables;
+use table_state::indexed_rows::Rows;
 
 /// The rows of a child table that its WHERE selects and that refer to one of those kept at the parent's place. They are
 /// found from there: it costs a look-up for each of those, and one for each row that refers to them.

@@ -11,5 +11,7 @@ pub mod viewing;
 pub use collecting::{foreign_places, selects};
 pub use laws::instance_law;
 pub use rooting::root_of;
+pub use table_state;
+pub use table_state::table_defs;
 pub use tree::{Child, Root, Tree};
 pub use viewing::{instance, view};

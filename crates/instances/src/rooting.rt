@@ -7,11 +7,11 @@ ghost use Rattle.instances.specs.Roots.{parent_key, root_of, root_within};
 
 use crate::collecting::foreign_places;
 use crate::tree::{Child, Root, Tree};
-use indexed_rows::key_at;
-use row_types::Key;
+use expressions::row_types::Key;
+use expressions::tier_base::TableId;
 use std::alloc::{AllocError, Global};
+use table_state::indexed_rows::key_at;
 use table_state::{Scan, Tables};
-use tier_base::TableId;
 
 /// The key of the root row that the row of a key in this table is reached from, whatever the WHERE conditions say; none
 /// where the tree doesn't cover the table, and where the row or one that it refers to isn't there.

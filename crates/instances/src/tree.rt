@@ -4,9 +4,9 @@ ghost use Rattle.std.specs.Prelude.{◌≡◌, ◌+◌, [], None, position};
 ghost use Rattle.instances.specs.Trees.{are_sound, is_parent, is_place, is_sound, is_sound_child, place_of, same_table, table_of};
 
 use expressions::Cond;
+use expressions::tier_base::{Seq, TableId};
 use std::alloc::Global;
-use table_defs::{BackingSchema, ForeignKey};
-use tier_base::{Seq, TableId};
+use table_state::table_defs::{BackingSchema, ForeignKey};
 
 /// The root table of a group.
 pub struct Root {

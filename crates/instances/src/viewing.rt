@@ -6,11 +6,11 @@ ghost use Rattle.instances.specs.Views.{instance_of, view_of, with_children};
 use crate::collecting::{child_rows, root_row, root_rows};
 use crate::following::followed_rows;
 use crate::tree::{Child, Tree};
-use indexed_rows::Rows;
-use row_types::Key;
+use expressions::row_types::Key;
+use expressions::tier_base::Seq;
 use std::alloc::{AllocError, Global};
 use table_state::Tables;
-use tier_base::Seq;
+use table_state::indexed_rows::Rows;
 
 /// The view of a group in these tables: for each table of the tree, the root first, the rows that the group covers, by
 /// primary key.

@@ -1,9 +1,9 @@
 //! Slots that are damaged.
 
 use crate::error::DrillError;
+use crate::tasks::disk_of;
 use crate::telling::tell_opening;
-use memory_disk::MemoryDisk;
-use std::alloc::Global;
+use std::alloc::{AllocError, Global};
 
 /// A live slot of version 1 with ticket 1 of a write that is passed on.
 const WHOLE: [u8; 25] = [
@@ -35,15 +35,19 @@ const CHANGES: [(&str, usize, &[u8]); 13] = [
 pub fn tell_damage(alloc: Global, out: &mut Vec<u8>) -> Result<(), DrillError> {
     out.extend_from_slice(b"-- damaged slots\n")?;
     for (name, at, bytes) in &CHANGES {
-        out.extend_from_slice(name.as_bytes())?;
-        out.extend_from_slice(b":")?;
-        tell_slot(alloc, changed(alloc, *at, bytes)?, out)?;
+        tell_name(name, out)?;
+        let slot = changed(alloc, *at, bytes)?;
+        tell_disk(alloc, slot.as_slice(), &[0], out)?;
     }
+    tell_cut(alloc, out)
+}
+
+fn tell_cut(alloc: Global, out: &mut Vec<u8>) -> Result<(), DrillError> {
     out.extend_from_slice(b"-- the slot cut to its first bytes\n")?;
     for len in 1..=WHOLE.len() {
         let mut slot = Vec::from_slice(alloc, &WHOLE)?;
         slot.truncate(len);
-        tell_slot(alloc, slot, out)?;
+        tell_disk(alloc, slot.as_slice(), &[0], out)?;
     }
     Ok(())
 }
@@ -103,13 +107,8 @@ const GREATER: [u8; 11] = [1, 1, 0, 0, 0, 0, 0, 0, 0, 2, 0];
 pub fn tell_pairs(alloc: Global, out: &mut Vec<u8>) -> Result<(), DrillError> {
     out.extend_from_slice(b"-- two slots\n")?;
     for (name, first, second) in &PAIRS {
-        out.extend_from_slice(name.as_bytes())?;
-        out.extend_from_slice(b":")?;
-        let first = Vec::from_slice(alloc, first)?;
-        let second = Vec::from_slice(alloc, second)?;
-        let mut disk = MemoryDisk::of(alloc, first, second)?;
-        tell_opening(alloc, &mut disk, out)?;
-        out.extend_from_slice(b"\n")?;
+        tell_name(name, out)?;
+        tell_disk(alloc, first, second, out)?;
     }
     Ok(())
 }
@@ -126,9 +125,19 @@ fn changed(alloc: Global, at: usize, bytes: &[u8]) -> Result<Vec<u8>, DrillError
     Ok(slot)
 }
 
-fn tell_slot(alloc: Global, slot: Vec<u8>, out: &mut Vec<u8>) -> Result<(), DrillError> {
-    let other = Vec::from_slice(alloc, &[0])?;
-    let mut disk = MemoryDisk::of(alloc, slot, other)?;
+fn tell_name(name: &str, out: &mut Vec<u8>) -> Result<(), AllocError> {
+    out.extend_from_slice(name.as_bytes())?;
+    out.extend_from_slice(b":")
+}
+
+// What an opening finds in two slots with these bytes.
+fn tell_disk(
+    alloc: Global,
+    first: &[u8],
+    second: &[u8],
+    out: &mut Vec<u8>,
+) -> Result<(), DrillError> {
+    let mut disk = disk_of(alloc, first, second)?;
     tell_opening(alloc, &mut disk, out)?;
     out.extend_from_slice(b"\n")?;
     Ok(())

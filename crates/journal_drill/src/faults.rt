@@ -14,16 +14,28 @@ const MOST: u64 = 16;
 /// call's effect or after it.
 pub fn tell_faults(alloc: Global, task: Task, out: &mut Vec<u8>) -> Result<(), DrillError> {
     for call in 0..MOST {
-        let before = failed(alloc, task, call, When::Before)?;
-        if let Some(disk) = before {
-            tell_fault(alloc, &disk, b"fault before", call, out)?;
-        }
-        let after = failed(alloc, task, call, When::After)?;
-        if let Some(disk) = after {
-            tell_fault(alloc, &disk, b"fault after", call, out)?;
-        }
+        tell_failed(alloc, task, call, When::Before, out)?;
+        tell_failed(alloc, task, call, When::After, out)?;
     }
     Ok(())
+}
+
+/// The same of one call, where the task has it.
+fn tell_failed(
+    alloc: Global,
+    task: Task,
+    call: u64,
+    when: When,
+    out: &mut Vec<u8>,
+) -> Result<(), DrillError> {
+    let name: &[u8] = match when {
+        When::Before => b"fault before",
+        When::After => b"fault after",
+    };
+    match failed(alloc, task, call, when)? {
+        Some(disk) => tell_fault(alloc, &disk, name, call, out),
+        None => Ok(()),
+    }
 }
 
 /// The disk that the task leaves where this call fails; none where it has no such call.
@@ -35,10 +47,12 @@ fn failed(
 ) -> Result<Option<MemoryDisk>, DrillError> {
     let mut disk = stage(alloc, task)?;
     disk.plan(Failure { call, when })?;
-    match run(alloc, task, &mut disk) {
-        Ok(()) => Ok(None),
-        Err(DrillError::Disk) => Ok(Some(disk)),
-        Err(error) => Err(error),
+    let Err(error) = run(alloc, task, &mut disk) else {
+        return Ok(None);
+    };
+    match &error {
+        DrillError::Disk => Ok(Some(disk)),
+        _ => Err(error),
     }
 }
 

@@ -15,7 +15,7 @@ mod telling;
 use damage::{tell_damage, tell_pairs};
 use error::DrillError;
 use faults::tell_faults;
-use std::alloc::Global;
+use std::alloc::{AllocError, Global};
 use std::io::Write;
 use std::process::ExitCode;
 use stops::tell_stops;
@@ -53,15 +53,23 @@ fn run(rt: &HostRuntime) -> Result<(), DrillError> {
 
 fn told(alloc: Global) -> Result<Vec<u8>, DrillError> {
     let mut out = Vec::new(alloc);
-    for (name, task) in &TASKS {
-        out.extend_from_slice(b"-- ")?;
-        out.extend_from_slice(name.as_bytes())?;
-        out.extend_from_slice(b"\n")?;
-        tell_task(alloc, *task, &mut out)?;
-    }
-    tell_damage(alloc, &mut out)?;
-    tell_pairs(alloc, &mut out)?;
+    tell_all(alloc, &mut out)?;
     Ok(out)
+}
+
+fn tell_all(alloc: Global, out: &mut Vec<u8>) -> Result<(), DrillError> {
+    for (name, task) in &TASKS {
+        tell_title(name, out)?;
+        tell_task(alloc, *task, out)?;
+    }
+    tell_damage(alloc, out)?;
+    tell_pairs(alloc, out)
+}
+
+fn tell_title(name: &str, out: &mut Vec<u8>) -> Result<(), AllocError> {
+    out.extend_from_slice(b"-- ")?;
+    out.extend_from_slice(name.as_bytes())?;
+    out.extend_from_slice(b"\n")
 }
 
 fn tell_task(alloc: Global, task: Task, out: &mut Vec<u8>) -> Result<(), DrillError> {

@@ -8,7 +8,7 @@ use std::alloc::Global;
 use tier_base::Ticket;
 
 /// What is done on a disk.
-#[derive(Clone, Copy, Debug, PartialEq, Eq)]
+#[derive(Clone, Copy)]
 pub enum Task {
     /// A journal is made.
     Open,
@@ -25,13 +25,13 @@ pub enum Task {
 }
 
 /// A slot that was never used.
-const UNUSED: [u8; 1] = [0];
+const UNUSED: &[u8] = &[0];
 
 /// A new slot of version 2.
-const NEW: [u8; 11] = [1, 2, 0, 0, 0, 0, 0, 0, 0, 1, 0];
+const NEW: &[u8] = &[1, 2, 0, 0, 0, 0, 0, 0, 0, 1, 0];
 
 /// A new slot of version 1.
-const OLD: [u8; 11] = [1, 1, 0, 0, 0, 0, 0, 0, 0, 1, 0];
+const OLD: &[u8] = &[1, 1, 0, 0, 0, 0, 0, 0, 0, 1, 0];
 
 /// A body: ticket 1 of a write that is passed on.
 const PASSED: [u8; 9] = [3, 0, 0, 0, 0, 0, 0, 0, 1];
@@ -44,15 +44,22 @@ const COMMIT: [u8; 33] = [
 
 /// The disk that a task begins on.
 pub fn stage(alloc: Global, task: Task) -> Result<MemoryDisk, DrillError> {
-    let first = match task {
-        Task::Open => Vec::from_slice(alloc, &UNUSED)?,
-        Task::Adopt => Vec::from_slice(alloc, &UNUSED)?,
-        Task::Upgrade => Vec::from_slice(alloc, &OLD)?,
-        Task::Flush => Vec::from_slice(alloc, &NEW)?,
-        Task::Rotate => Vec::from_slice(alloc, &NEW)?,
-        Task::Append => Vec::from_slice(alloc, &NEW)?,
-    };
-    let second = Vec::from_slice(alloc, &UNUSED)?;
+    disk_of(alloc, first_slot(task), UNUSED)
+}
+
+/// What stands in slot 0 where a task begins.
+fn first_slot(task: Task) -> &'static [u8] {
+    match task {
+        Task::Open | Task::Adopt => UNUSED,
+        Task::Upgrade => OLD,
+        Task::Flush | Task::Rotate | Task::Append => NEW,
+    }
+}
+
+/// A disk with these bytes in its slots.
+pub fn disk_of(alloc: Global, first: &[u8], second: &[u8]) -> Result<MemoryDisk, DrillError> {
+    let first = Vec::from_slice(alloc, first)?;
+    let second = Vec::from_slice(alloc, second)?;
     let disk = MemoryDisk::of(alloc, first, second)?;
     Ok(disk)
 }
@@ -61,26 +68,25 @@ pub fn stage(alloc: Global, task: Task) -> Result<MemoryDisk, DrillError> {
 pub fn run(alloc: Global, task: Task, disk: &mut MemoryDisk) -> Result<(), DrillError> {
     match task {
         Task::Adopt => adopt(alloc, disk),
-        Task::Open => {
-            let _ = open(alloc, disk)?;
-            Ok(())
+        _ => {
+            let mut opened = open(alloc, disk)?;
+            run_opened(alloc, task, &mut opened.journal, disk)
         }
-        Task::Flush => {
-            let mut journal = open(alloc, disk)?.journal;
-            flush(&mut journal, disk)
-        }
-        Task::Rotate => {
-            let mut journal = open(alloc, disk)?.journal;
-            rotate(alloc, &mut journal, disk)
-        }
-        Task::Upgrade => {
-            let mut journal = open(alloc, disk)?.journal;
-            rotate(alloc, &mut journal, disk)
-        }
-        Task::Append => {
-            let mut journal = open(alloc, disk)?.journal;
-            append(alloc, &mut journal, disk)
-        }
+    }
+}
+
+// What a task does behind the opening.
+fn run_opened(
+    alloc: Global,
+    task: Task,
+    journal: &mut Journal,
+    disk: &mut MemoryDisk,
+) -> Result<(), DrillError> {
+    match task {
+        Task::Open | Task::Adopt => Ok(()),
+        Task::Flush => flush(journal, disk),
+        Task::Rotate | Task::Upgrade => rotate(alloc, journal, disk),
+        Task::Append => append(alloc, journal, disk),
     }
 }
 

@@ -4,7 +4,7 @@ use Rattle.std.specs.List.{flat_map, AllByRecursion}
 use Rattle.std.specs.Int.{w16, w32, w64, to_be_bytes}
 use Rattle.std.proofs.lemmas.Bool.{ltb-true, eqb-true, lt-ltb, le-leb, leb-true}
 use Rattle.std.proofs.lemmas.Option.{same_Some}
-use Rattle.tier_base.specs.declared.number.Ticket.{Ticket}
+use Rattle.row_types.specs.tier_base.specs.declared.number.Ticket.{Ticket}
 use Rattle.row_types.specs.declared.value.Value.{Value}
 use Rattle.journal_entries.specs.declared.entry.Op.{Op}
 use Rattle.journal_entries.specs.declared.entry.Op.TheVariants.{Insert, Update, Delete}

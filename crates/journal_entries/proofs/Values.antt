@@ -10,7 +10,7 @@ use Rattle.std.specs.Int.Signed.{lt_z, lt_z_no, lt_z_yes}
 use Rattle.std.proofs.lemmas.Float.{T_from_true}
 use Rattle.std.proofs.lemmas.Int.{ints}
 use Rattle.row_types.specs.Times.{IsTime}
-use Rattle.numbers.specs.Decimals.{Decimal as OneNumber}
+use Rattle.row_types.specs.numbers.specs.Decimals.{Decimal as OneNumber}
 use Rattle.row_types.specs.declared.value.Value.{Value}
 use Rattle.row_types.specs.declared.value.Value.TheVariants.{Null, Number, Text, Time}
 use Rattle.journal_entries.specs.Spelling.{IsBytes, signed_bytes, value_bytes, row_bytes, IsScale, IsValue, IsRow}

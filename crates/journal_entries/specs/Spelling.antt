@@ -4,7 +4,7 @@ use Rattle.std.specs.Prelude.{◌≡◌, ℕ, ◌^◌, ◌<◌, ◌≤◌, ◌�
 use Rattle.std.specs.List.{flat_map, AllByRecursion}
 use Rattle.std.specs.Int.{w16, w32, w64, to_be_bytes, cast_unsigned}
 use Rattle.std.specs.Str.{is_utf8}
-use Rattle.tier_base.specs.declared.number.Ticket.{Ticket}
+use Rattle.row_types.specs.tier_base.specs.declared.number.Ticket.{Ticket}
 use Rattle.row_types.specs.Times.{IsTime}
 use Rattle.row_types.specs.declared.value.Value.{Value}
 use Rattle.row_types.specs.declared.value.Value.TheVariants.{Null, Number, Text, Time}

@@ -1,7 +1,7 @@
 //! What the journal keeps.
 
 use row_types::Row;
-use tier_base::{Seq, Ticket};
+use row_types::tier_base::{Seq, Ticket};
 
 /// The bytes of a name of a table or a group, or of the statement that defines a group. The journal knows no schema:
 /// whether they name or define something is told by what opens it.

@@ -7,8 +7,8 @@ ghost use Rattle.journal_entries.specs.Reading.{Gives, byte_at, number_at, bytes
 
 use crate::entry::Bytes;
 use crate::fault::ReadError;
+use row_types::tier_base::Seq;
 use std::alloc::Global;
-use tier_base::Seq;
 
 #[tactic(auto, unfolding(crate::specs::Reading::byte_at))]
 pub(crate) fn byte_at(bytes: &[u8]) -> Result<(u8, &[u8]), ReadError>

@@ -14,5 +14,6 @@ pub mod writing;
 pub use bodies::{read_body, read_entry};
 pub use entry::{Bytes, Entry, GroupState, Op};
 pub use fault::ReadError;
+pub use row_types::tier_base;
 pub use size::{entries_size, entry_size};
 pub use standing::{Ending, Standing};

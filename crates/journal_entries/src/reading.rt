@@ -6,10 +6,10 @@ ghost use Rattle.journal_entries.specs.Reading.{Gives, integer_at, string_at, te
 use crate::entry::{Entry, GroupState, Op};
 use crate::fault::ReadError;
 use crate::fields::{byte_at, bytes_at, copy_at, i64_at, is_text, name_at, u16_at, u32_at, u64_at};
-use numbers::Number;
+use row_types::numbers::Number;
+use row_types::tier_base::{Seq, Ticket};
 use row_types::{Row, Text, Time, Value};
 use std::alloc::Global;
-use tier_base::{Seq, Ticket};
 
 /// The first second of the year 0001.
 const FIRST_SECOND: i64 = -62_135_596_800;

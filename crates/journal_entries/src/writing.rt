@@ -8,7 +8,7 @@ ghost use Rattle.journal_entries.specs.Writing.{Writes};
 
 use crate::entry::{Entry, GroupState, Op};
 use row_types::Value;
-use tier_base::Ticket;
+use row_types::tier_base::Ticket;
 
 /// Puts bytes behind the others.
 pub fn put_bytes(out: &mut Vec<u8>, bytes: &[u8])

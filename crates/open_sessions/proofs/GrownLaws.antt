@@ -1,8 +1,8 @@
 -- What holds of the sessions under a schema holds under one that knows it.
 use Rattle.std.proofs.Common.{◌≡◌, List, true, All, arith, get_or}
 use Rattle.std.proofs.lemmas.List.Elements.{All-map, All-weaker}
-use Rattle.table_defs.specs.declared.definition.TableDef.{TableDef}
-use Rattle.own_rows.specs.Knowing.{Knows}
+use Rattle.session_state.specs.table_defs.specs.declared.definition.TableDef.{TableDef}
+use Rattle.session_state.specs.own_rows.specs.Knowing.{Knows}
 use Rattle.session_state.specs.Kept.{IsKept, are_defined, seen_of}
 use Rattle.session_state.specs.Sessions.{OpenSession}
 use Rattle.session_state.proofs.GrownLaws.{apart_grown, kept_grown}

@@ -7,9 +7,9 @@ use Rattle.std.specs.Option.{option_and_then, option_map}
 use Rattle.std.proofs.lemmas.Bool.{eqb-true, ne_eqb}
 use Rattle.std.proofs.lemmas.List.Elements.{All-cons, All-head, All-tail}
 use Rattle.std.proofs.lemmas.Slice.Eq.{bytes_eq-Decides}
-use Rattle.tier_base.specs.declared.number.SessionId.{SessionId}
-use Rattle.table_defs.specs.declared.definition.TableDef.{TableDef}
-use Rattle.table_state.specs.declared.operation.Op.{Op}
+use Rattle.session_state.specs.tier_base.specs.declared.number.SessionId.{SessionId}
+use Rattle.session_state.specs.table_defs.specs.declared.definition.TableDef.{TableDef}
+use Rattle.session_state.specs.table_state.specs.declared.operation.Op.{Op}
 use Rattle.session_state.specs.declared.session.Session.{Session}
 use Rattle.session_state.specs.Kept.{seen_of}
 use Rattle.session_state.specs.Locks.{holder_of}

@@ -7,9 +7,9 @@ use Rattle.std.proofs.lemmas.Slice.Eq.{bytes_eq-Decides}
 use Rattle.std.proofs.lemmas.List.Elements.{All-cons, All-head, All-push, All-tail}
 use Rattle.std.proofs.lemmas.List.Quantifiers.{all_pairs_push, all_pairs_remove, position-Some}
 use Rattle.std.proofs.lemmas.Option.{get_or_from_slice_get, slice_get-get_or, slice_get_within}
-use Rattle.tier_base.specs.declared.number.SessionId.{SessionId}
-use Rattle.table_defs.specs.declared.definition.TableDef.{TableDef}
-use Rattle.table_state.specs.declared.operation.Op.{Op}
+use Rattle.session_state.specs.tier_base.specs.declared.number.SessionId.{SessionId}
+use Rattle.session_state.specs.table_defs.specs.declared.definition.TableDef.{TableDef}
+use Rattle.session_state.specs.table_state.specs.declared.operation.Op.{Op}
 use Rattle.session_state.specs.declared.session.Session.{Session}
 use Rattle.session_state.specs.Kept.{IsKept, seen_of}
 use Rattle.session_state.specs.Locks.{AreApart, IsApart, is_other}

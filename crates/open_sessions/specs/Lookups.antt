@@ -3,11 +3,11 @@
 use Rattle.std.specs.Prelude.{ℕ, ◌-◌, Bool, List, [], Option, find, length, unwrap_or}
 use Rattle.std.specs.List.{list_any}
 use Rattle.std.specs.Option.{option_map}
-use Rattle.tier_base.specs.declared.limit.Limit.TheVariants as limit
-use Rattle.tier_base.specs.Limits.{greatest}
-use Rattle.tier_base.specs.declared.number.SessionId.{SessionId}
-use Rattle.table_defs.specs.Names.{same_name}
-use Rattle.table_state.specs.declared.operation.Op.{Op}
+use Rattle.session_state.specs.tier_base.specs.declared.limit.Limit.TheVariants as limit
+use Rattle.session_state.specs.tier_base.specs.Limits.{greatest}
+use Rattle.session_state.specs.tier_base.specs.declared.number.SessionId.{SessionId}
+use Rattle.session_state.specs.table_defs.specs.Names.{same_name}
+use Rattle.session_state.specs.table_state.specs.declared.operation.Op.{Op}
 use Rattle.session_state.specs.Sessions.{OpenSession, has_id}
 
 -- the session has this label

@@ -2,8 +2,8 @@
 
 use Rattle.std.specs.Prelude.{◌≡◌, ◌≢◌, ℕ, ◌<◌, ◌≤◌, Bool, true, false, not, List, [], ◌∷◌, ◌++◌, All, filter, length, map, if◌then◌else◌}
 use Rattle.std.specs.List.{AllPairs}
-use Rattle.tier_base.specs.declared.number.SessionId.{SessionId}
-use Rattle.table_defs.specs.declared.definition.TableDef.{TableDef}
+use Rattle.session_state.specs.tier_base.specs.declared.number.SessionId.{SessionId}
+use Rattle.session_state.specs.table_defs.specs.declared.definition.TableDef.{TableDef}
 use Rattle.session_state.specs.Kept.{IsKept, seen_of}
 use Rattle.session_state.specs.Locks.{IsApart}
 use Rattle.session_state.specs.Sessions.{OpenSession, begun, has_id}

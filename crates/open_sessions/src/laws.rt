@@ -2,9 +2,9 @@
 
 ghost use Rattle.std.specs.Prelude.{◌≡◌, ℕ, List, Some, filter, if◌then◌else◌, map, not};
 ghost use Rattle.std.specs.Option.{option_and_then};
-ghost use Rattle.table_defs.specs.declared.definition.TableDef.{TableDef};
-ghost use Rattle.table_state.specs.declared.operation.Op.{Op};
-ghost use Rattle.own_rows.specs.Knowing.{Knows};
+ghost use Rattle.session_state.specs.table_defs.specs.declared.definition.TableDef.{TableDef};
+ghost use Rattle.session_state.specs.table_state.specs.declared.operation.Op.{Op};
+ghost use Rattle.session_state.specs.own_rows.specs.Knowing.{Knows};
 ghost use Rattle.session_state.specs.Locks.{holder_of};
 ghost use Rattle.session_state.specs.Meeting.{blocker_of};
 ghost use Rattle.session_state.specs.Sessions.{OpenSession};

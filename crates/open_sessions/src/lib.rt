@@ -4,4 +4,5 @@
 pub mod laws;
 mod sessions;
 
+pub use session_state;
 pub use sessions::{OpenError, Sessions};

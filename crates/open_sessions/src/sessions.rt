@@ -3,25 +3,25 @@
 ghost use Rattle.std.specs.Prelude.{◌≡◌, ◌≤◌, ◌<◌, ◌++◌, ◌∷◌, All, List, [], Some, None, true, false, find, IfOk, IfErr, MatchOption, OnErr, OnOk, length, map, nat_eq, nat_le, position};
 ghost use Rattle.std.specs.List.{list_any};
 ghost use Rattle.std.specs.Option.{option_copied, option_map};
-ghost use Rattle.table_defs.specs.declared.definition.TableDef.{TableDef as Def};
-ghost use Rattle.table_state.specs.Footprints.{footprint_of, is_among};
-ghost use Rattle.table_state.specs.Operations.{applied_all};
-ghost use Rattle.own_rows.specs.OwnTables.{AreShown};
+ghost use Rattle.session_state.specs.table_defs.specs.declared.definition.TableDef.{TableDef as Def};
+ghost use Rattle.session_state.specs.table_state.specs.Footprints.{footprint_of, is_among};
+ghost use Rattle.session_state.specs.table_state.specs.Operations.{applied_all};
+ghost use Rattle.session_state.specs.own_rows.specs.OwnTables.{AreShown};
 ghost use Rattle.session_state.specs.Kept.{IsKept, are_defined, seen_of};
 ghost use Rattle.session_state.specs.Locks.{holder_of, keeper};
 ghost use Rattle.session_state.specs.Sessions.{at_rest, level_of, with_flag, with_ops};
-ghost use Rattle.tier_base.specs.declared.limit.Limit.TheVariants.{Operations};
-ghost use Rattle.tier_base.specs.declared.limit.Limit.TheVariants as limit;
-ghost use Rattle.tier_base.specs.Limits.{greatest};
+ghost use Rattle.session_state.specs.tier_base.specs.declared.limit.Limit.TheVariants.{Operations};
+ghost use Rattle.session_state.specs.tier_base.specs.declared.limit.Limit.TheVariants as limit;
+ghost use Rattle.session_state.specs.tier_base.specs.Limits.{greatest};
 ghost use Rattle.open_sessions.specs.Lookups.{has_label, of_label, of_number, open_ops, room_of};
 
-use own_rows::Overlay;
-use row_types::Key;
+use session_state::own_rows::Overlay;
+use session_state::row_types::Key;
+use session_state::table_defs::BackingSchema;
+use session_state::table_state::{Op, Ops, Scan, Sealed, copied_ops};
+use session_state::tier_base::{Label, Limit, SessionId, TableId, Ticket};
 use session_state::{Session, holder, keeper_of_key};
 use std::alloc::{AllocError, Global};
-use table_defs::BackingSchema;
-use table_state::{Op, Ops, Scan, Sealed, copied_ops};
-use tier_base::{Label, Limit, SessionId, TableId, Ticket};
 
 // The greatest number of open sessions.
 const LIMIT: usize = 64;

@@ -5,16 +5,16 @@ use Rattle.std.specs.Option.{option_and_then}
 use Rattle.std.specs.FinMap as fm
 use Rattle.std.specs.FinMap.{empty}
 use Rattle.std.proofs.lemmas.List.{length-map, nil_from_length}
-use Rattle.row_types.specs.declared.value.Value.{Value}
-use Rattle.row_types.specs.Order.{key_order}
-use Rattle.tier_base.specs.declared.number.TableId.{TableId}
-use Rattle.table_defs.specs.declared.definition.ForeignKey.{ForeignKey}
-use Rattle.table_defs.specs.declared.definition.TableDef.{TableDef}
+use Rattle.table_state.specs.row_types.specs.declared.value.Value.{Value}
+use Rattle.table_state.specs.row_types.specs.Order.{key_order}
+use Rattle.table_state.specs.tier_base.specs.declared.number.TableId.{TableId}
+use Rattle.table_state.specs.table_defs.specs.declared.definition.ForeignKey.{ForeignKey}
+use Rattle.table_state.specs.table_defs.specs.declared.definition.TableDef.{TableDef}
 use Rattle.table_state.specs.declared.history.Entry.{Entry}
 use Rattle.table_state.specs.declared.history.Entry.TheVariants.{Definition, Foreign, Own}
 use Rattle.table_state.specs.declared.operation.Op.{Op}
 use Rattle.table_state.specs.declared.operation.Op.TheVariants.{Insert, Update, Delete}
-use Rattle.indexed_rows.specs.Rows.{Table, is_same, key_of}
+use Rattle.table_state.specs.indexed_rows.specs.Rows.{Table, is_same, key_of}
 use Rattle.table_state.specs.Footprints.{conflict, footprint_of}
 use Rattle.table_state.specs.Histories.{state_from}
 use Rattle.table_state.specs.Independence.{IsWhole, with_new}

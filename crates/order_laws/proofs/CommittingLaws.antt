@@ -5,7 +5,7 @@ use Rattle.std.specs.Option.{option_and_then}
 use Rattle.std.proofs.lemmas.List.{map-append}
 use Rattle.std.proofs.lemmas.List.Elements.{filter-append}
 use Rattle.std.proofs.lemmas.List.Folds.{list_all-append}
-use Rattle.tier_base.specs.declared.number.Ticket.{Ticket}
+use Rattle.table_state.specs.tier_base.specs.declared.number.Ticket.{Ticket}
 use Rattle.table_state.specs.declared.history.Entry.{Entry}
 use Rattle.table_state.specs.declared.history.Entry.TheVariants.{Definition, Foreign, Own}
 use Rattle.table_state.specs.declared.history.Sealed.{Sealed}

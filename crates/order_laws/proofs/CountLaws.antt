@@ -4,16 +4,16 @@ use Rattle.std.proofs.Common.{◌≡◌, ℕ, zero, suc, ◌+◌, Bool, true, fa
 use Rattle.std.specs.Option.{option_and_then}
 use Rattle.std.specs.FinMap as fm
 use Rattle.std.specs.FinMap.{empty}
-use Rattle.row_types.specs.declared.value.Value.{Value}
-use Rattle.row_types.proofs.OrderLaws.{key_total, key_exact}
-use Rattle.tier_base.specs.declared.number.TableId.{TableId}
-use Rattle.table_defs.specs.declared.definition.TableDef.{TableDef}
+use Rattle.table_state.specs.row_types.specs.declared.value.Value.{Value}
+use Rattle.table_state.specs.row_types.proofs.OrderLaws.{key_total, key_exact}
+use Rattle.table_state.specs.tier_base.specs.declared.number.TableId.{TableId}
+use Rattle.table_state.specs.table_defs.specs.declared.definition.TableDef.{TableDef}
 use Rattle.table_state.specs.declared.history.Entry.{Entry}
 use Rattle.table_state.specs.declared.history.Entry.TheVariants.{Definition, Foreign, Own}
 use Rattle.table_state.specs.declared.operation.Op.{Op}
 use Rattle.table_state.specs.declared.operation.Op.TheVariants.{Insert, Update, Delete}
-use Rattle.indexed_rows.specs.Rows.{Table, is_same, key_of}
-use Rattle.indexed_rows.proofs.EntryLaws.{same_itself, same_values}
+use Rattle.table_state.specs.indexed_rows.specs.Rows.{Table, is_same, key_of}
+use Rattle.table_state.specs.indexed_rows.proofs.EntryLaws.{same_itself, same_values}
 use Rattle.table_state.specs.Histories.{after_entry, no_tables, state_from, state_of}
 use Rattle.table_state.specs.Tables.{TableState, fits_columns, has_parent, is_there, table_at}
 use Rattle.table_state.specs.Operations.{applied, applied_all, table_of}

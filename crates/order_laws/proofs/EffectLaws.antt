@@ -1,15 +1,15 @@
 -- What an operation writes, in the words of footprints; and the laws of pairs in those words.
 use Rattle.std.proofs.Common.{◌≡◌, Bool, true, false, cond, ◌||◌, ◌&&◌, Option, Some, List, [], ◌∷◌, refl, sym, ap, ◌∙◌, eq-eqb}
 use Rattle.std.specs.List.{flat_map}
-use Rattle.row_types.specs.declared.value.Value.{Value}
-use Rattle.tier_base.specs.declared.number.TableId.{TableId}
-use Rattle.table_defs.specs.declared.definition.TableDef.{TableDef}
+use Rattle.table_state.specs.row_types.specs.declared.value.Value.{Value}
+use Rattle.table_state.specs.tier_base.specs.declared.number.TableId.{TableId}
+use Rattle.table_state.specs.table_defs.specs.declared.definition.TableDef.{TableDef}
 use Rattle.table_state.specs.declared.footprint.RowKey.{RowKey}
 use Rattle.table_state.specs.declared.history.Sealed.{Sealed}
 use Rattle.table_state.specs.declared.operation.Op.{Op}
 use Rattle.table_state.specs.declared.operation.Op.TheVariants.{Insert, Update, Delete}
-use Rattle.indexed_rows.specs.Rows.{Table, key_of}
-use Rattle.indexed_rows.proofs.EntryLaws.{same_itself, same_values}
+use Rattle.table_state.specs.indexed_rows.specs.Rows.{Table, key_of}
+use Rattle.table_state.specs.indexed_rows.proofs.EntryLaws.{same_itself, same_values}
 use Rattle.table_state.specs.Footprints.{conflict, footprint_of, is_among, rows_of, same_row_key, written_by, written_key}
 use Rattle.table_state.specs.Tables.{TableState, fits_columns, has_parent, is_there}
 use Rattle.table_state.specs.Operations.{applied, applied_all, table_of}

@@ -1,9 +1,9 @@
 -- On a writethrough group's tables the virtual state is the one in ticket order.
 use Rattle.std.proofs.Common.{◌≡◌, ℕ, ◌+◌, ◌≤◌, Bool, true, false, cond, not, ◌&&◌, ◌||◌, nat_eq, nat_le, Some, List, [], ◌∷◌, ◌++◌, map, slice_get, refl, sym, ap, ◌∙◌, arith, eq-eqb, eqb-true, append-nil, le-leb}
 use Rattle.std.specs.List.{filter, list_any}
-use Rattle.tier_base.specs.declared.number.TableId.{TableId}
-use Rattle.tier_base.specs.declared.number.Ticket.{Ticket}
-use Rattle.table_defs.specs.declared.definition.TableDef.{TableDef}
+use Rattle.table_state.specs.tier_base.specs.declared.number.TableId.{TableId}
+use Rattle.table_state.specs.tier_base.specs.declared.number.Ticket.{Ticket}
+use Rattle.table_state.specs.table_defs.specs.declared.definition.TableDef.{TableDef}
 use Rattle.table_state.specs.declared.history.Entry.{Entry}
 use Rattle.table_state.specs.declared.history.Entry.TheVariants.{Definition, Foreign, Own}
 use Rattle.table_state.specs.declared.history.Sealed.{Sealed}

@@ -2,13 +2,13 @@
 use Rattle.std.proofs.Common.{◌≡◌, ℕ, Bool, true, false, ◌||◌, ◌&&◌, nat_eq, Option, Some, None, is_some, List, [], ◌∷◌, slice_set, unwrap_or, slice_get, zero, suc, refl, sym, ap, ◌∙◌, eqb-true}
 use Rattle.std.specs.List.{flat_map, list_any}
 use Rattle.std.specs.FinMap.{empty}
-use Rattle.row_types.specs.declared.value.Value.{Value}
-use Rattle.table_defs.specs.declared.definition.TableDef.{TableDef}
+use Rattle.table_state.specs.row_types.specs.declared.value.Value.{Value}
+use Rattle.table_state.specs.table_defs.specs.declared.definition.TableDef.{TableDef}
 use Rattle.table_state.specs.declared.footprint.Footprint.{Footprint}
 use Rattle.table_state.specs.declared.footprint.RowKey.{RowKey}
 use Rattle.table_state.specs.declared.operation.Op.{Op}
-use Rattle.indexed_rows.specs.Rows.{Table, is_same}
-use Rattle.indexed_rows.proofs.EntryLaws.{same_values}
+use Rattle.table_state.specs.indexed_rows.specs.Rows.{Table, is_same}
+use Rattle.table_state.specs.indexed_rows.proofs.EntryLaws.{same_values}
 use Rattle.table_state.specs.Footprints.{conflict, footprint_of, is_among, is_in, referred_by, same_row_key, written_by}
 use Rattle.table_state.specs.Tables.{TableState}
 use Rattle.table_state.specs.Operations.{applied, table_of}

@@ -5,18 +5,18 @@ use Rattle.std.specs.List.{flat_map, list_any}
 use Rattle.std.proofs.lemmas.List.Folds.{list_any-append}
 use Rattle.std.specs.FinMap as fm
 use Rattle.std.specs.FinMap.{empty}
-use Rattle.row_types.specs.declared.value.Value.{Value}
-use Rattle.tier_base.specs.declared.number.TableId.{TableId}
-use Rattle.table_defs.specs.declared.definition.ForeignKey.{ForeignKey}
-use Rattle.table_defs.specs.declared.definition.TableDef.{TableDef}
+use Rattle.table_state.specs.row_types.specs.declared.value.Value.{Value}
+use Rattle.table_state.specs.tier_base.specs.declared.number.TableId.{TableId}
+use Rattle.table_state.specs.table_defs.specs.declared.definition.ForeignKey.{ForeignKey}
+use Rattle.table_state.specs.table_defs.specs.declared.definition.TableDef.{TableDef}
 use Rattle.table_state.specs.declared.footprint.RowKey.{RowKey}
 use Rattle.table_state.specs.declared.operation.Op.{Op}
-use Rattle.indexed_rows.specs.Rows.{Table, is_same, key_of}
+use Rattle.table_state.specs.indexed_rows.specs.Rows.{Table, is_same, key_of}
 use Rattle.table_state.specs.Copies.{is_one_of}
 use Rattle.table_state.specs.Footprints.{footprint_of, is_among, is_in, parent_key, referred_by, referred_key, rows_of, same_row_key, written_by, written_key}
 use Rattle.table_state.specs.Tables.{TableState, has_child_in, names_parent, table_at}
 use Rattle.table_state.specs.Operations.{applied, applied_all, table_of}
-use Rattle.row_types.proofs.OrderLaws.{key_total, key_exact}
+use Rattle.table_state.specs.row_types.proofs.OrderLaws.{key_total, key_exact}
 use Rattle.table_state.proofs.IndependenceLaws.{stays_beside, stays_defined}
 use Rattle.order_laws.specs.Commits.{is_op_on, ops_on}
 use Rattle.order_laws.specs.Effects.{AgreeFor, row_left_by}

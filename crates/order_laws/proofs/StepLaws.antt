@@ -5,15 +5,15 @@ use Rattle.std.specs.List.{flat_map, list_any}
 use Rattle.std.proofs.lemmas.List.Folds.{list_any-append}
 use Rattle.std.specs.FinMap as fm
 use Rattle.std.specs.FinMap.{empty}
-use Rattle.row_types.specs.declared.value.Value.{Value}
-use Rattle.tier_base.specs.declared.number.TableId.{TableId}
-use Rattle.table_defs.specs.declared.definition.ForeignKey.{ForeignKey}
-use Rattle.table_defs.specs.declared.definition.TableDef.{TableDef}
+use Rattle.table_state.specs.row_types.specs.declared.value.Value.{Value}
+use Rattle.table_state.specs.tier_base.specs.declared.number.TableId.{TableId}
+use Rattle.table_state.specs.table_defs.specs.declared.definition.ForeignKey.{ForeignKey}
+use Rattle.table_state.specs.table_defs.specs.declared.definition.TableDef.{TableDef}
 use Rattle.table_state.specs.declared.footprint.RowKey.{RowKey}
 use Rattle.table_state.specs.declared.operation.Op.{Op}
 use Rattle.table_state.specs.declared.operation.Op.TheVariants.{Insert, Update, Delete}
-use Rattle.indexed_rows.specs.Rows.{Table, is_same, key_of}
-use Rattle.indexed_rows.proofs.EntryLaws.{read, same_itself, same_values, there}
+use Rattle.table_state.specs.indexed_rows.specs.Rows.{Table, is_same, key_of}
+use Rattle.table_state.specs.indexed_rows.proofs.EntryLaws.{read, same_itself, same_values, there}
 use Rattle.table_state.specs.Changes.{with_table}
 use Rattle.table_state.specs.Footprints.{is_among, parent_key, referred_by, referred_key, rows_of, same_row_key, written_by, written_key}
 use Rattle.table_state.specs.Tables.{TableState, fits_columns, has_child, has_child_in, has_parent, is_found, is_there, names_parent, table_at}

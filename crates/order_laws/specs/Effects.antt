@@ -4,8 +4,8 @@
 use Rattle.std.specs.Prelude.{◌≡◌, List, Option, Some, None, true, false, is_some, length}
 use Rattle.std.specs.FinMap.{get}
 use Rattle.std.specs.Option.{option_and_then}
-use Rattle.row_types.specs.declared.value.Value.{Value}
-use Rattle.tier_base.specs.declared.number.TableId.{TableId}
+use Rattle.table_state.specs.row_types.specs.declared.value.Value.{Value}
+use Rattle.table_state.specs.tier_base.specs.declared.number.TableId.{TableId}
 use Rattle.table_state.specs.declared.footprint.RowKey.{RowKey}
 use Rattle.table_state.specs.declared.operation.Op.{Op}
 use Rattle.table_state.specs.declared.operation.Op.TheVariants.{Insert, Update, Delete}

@@ -3,9 +3,9 @@
 
 use Rattle.std.specs.Prelude.{◌≡◌, List, Some, Bool, true, false, not, length, slice_get}
 use Rattle.std.specs.List.{list_all}
-use Rattle.tier_base.specs.declared.number.TableId.{TableId}
-use Rattle.table_defs.specs.declared.definition.ForeignKey.{ForeignKey}
-use Rattle.table_defs.specs.declared.definition.TableDef.{TableDef}
+use Rattle.table_state.specs.tier_base.specs.declared.number.TableId.{TableId}
+use Rattle.table_state.specs.table_defs.specs.declared.definition.ForeignKey.{ForeignKey}
+use Rattle.table_state.specs.table_defs.specs.declared.definition.TableDef.{TableDef}
 use Rattle.table_state.specs.declared.history.Sealed.{Sealed}
 use Rattle.table_state.specs.declared.operation.Op.{Op}
 use Rattle.table_state.specs.Copies.{is_one_of}

@@ -1,8 +1,8 @@
 //! Laws of operations, of transactions and of their order.
 
 ghost use Rattle.std.specs.Prelude.{◌≡◌, List, [], ◌∷◌, Some, is_some, true, false};
-ghost use Rattle.tier_base.specs.declared.number.TableId.{TableId};
-ghost use Rattle.table_defs.specs.declared.definition.TableDef.{TableDef};
+ghost use Rattle.table_state.specs.tier_base.specs.declared.number.TableId.{TableId};
+ghost use Rattle.table_state.specs.table_defs.specs.declared.definition.TableDef.{TableDef};
 ghost use Rattle.table_state.specs.declared.history.Entry.{Entry};
 ghost use Rattle.table_state.specs.declared.history.Sealed.{Sealed};
 ghost use Rattle.table_state.specs.declared.operation.Op.{Op};

@@ -16,3 +16,5 @@ pub use standing::{
     at_once_law, begin_law, come_law, commit_law, define_law, group_law, leave_law, lost_law,
     others_law, round_law,
 };
+pub use table_state;
+pub use table_state::{indexed_rows, row_types, table_defs, tier_base};

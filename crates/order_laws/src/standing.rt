@@ -2,7 +2,7 @@
 //! writethrough cache groups of the TimesTen Cache User's Guide.
 
 ghost use Rattle.std.specs.Prelude.{◌≡◌, ◌≤◌, ◌++◌, ℕ, List, [], ◌∷◌, true, is_some};
-ghost use Rattle.table_defs.specs.declared.definition.TableDef.{TableDef};
+ghost use Rattle.table_state.specs.table_defs.specs.declared.definition.TableDef.{TableDef};
 ghost use Rattle.table_state.specs.declared.history.Entry.{Entry};
 ghost use Rattle.table_state.specs.declared.history.Entry.TheVariants.{Definition, Foreign};
 ghost use Rattle.table_state.specs.declared.history.Sealed.{Sealed};

@@ -1,20 +1,17 @@
 -- An instance that no change touches is as it was.
-use Rattle.std.proofs.Common.{◌≡◌, ℕ, zero, suc, Bool, true, false, cond, ◌||◌, Option, Some, None, is_some, List, [], ◌∷◌, ◌++◌, ◌&&◌, drop, map, slice_get, nat_eq, refl, sym, ap, subst, ◌∙◌, arith}
+use Rattle.std.proofs.Common.{◌≡◌, ℕ, zero, suc, Bool, true, false, cond, ◌||◌, Option, Some, None, List, [], ◌∷◌, ◌++◌, ◌&&◌, drop, map, slice_get, nat_eq, refl, sym, ap, subst, ◌∙◌}
 use Rattle.std.proofs.lemmas.Bool.{eqb-true, eq-eqb}
 use Rattle.std.specs.Option.{option_and_then}
 use Rattle.std.specs.List.{flat_map, list_any}
-use Rattle.std.specs.FinMap.{contains_key, get, same_map}
+use Rattle.std.specs.FinMap.{get, same_map}
 use Rattle.row_types.specs.declared.value.Value.{Value}
 use Rattle.row_types.proofs.OrderLaws.{key_total, key_exact}
-use Rattle.tier_base.specs.declared.number.Position.{Position}
 use Rattle.tier_base.specs.declared.number.TableId.{TableId}
 use Rattle.table_defs.specs.declared.definition.TableDef.{TableDef}
 use Rattle.table_defs.specs.Declarations.{foreign_places}
 use Rattle.indexed_rows.specs.Rows.{Table, is_same, key_of}
 use Rattle.table_state.specs.Copies.{is_one_of}
 use Rattle.table_state.specs.declared.footprint.RowKey.{RowKey}
-use Rattle.table_state.specs.declared.history.Entry.{Entry}
-use Rattle.table_state.specs.Histories.{state_at, state_of}
 use Rattle.table_state.specs.Tables.{TableState, table_at}
 use Rattle.change_log.specs.declared.log.RowChange.{RowChange}
 use Rattle.change_log.specs.Logs.{Each, IsChanged, IsChangeOf, is_at, is_changed, is_same_row, row_at}
@@ -22,15 +19,13 @@ use Rattle.change_log.proofs.LoggingLaws.{Keeps, goes_on, history_keeps}
 use Rattle.instances.specs.declared.tree.Child.{Child}
 use Rattle.instances.specs.declared.tree.Tree.{Tree}
 use Rattle.instances.specs.Roots.{root_at, root_of}
-use Rattle.instances.specs.Trees.{is_sound, place_of, table_of}
+use Rattle.instances.specs.Trees.{is_sound, place_of}
 use Rattle.instances.specs.Views.{child_rows, instance_of, is_kept, kept_at, only, passes, refers_to_one, root_rows, selects}
-use Rattle.instances.specs.Instances.{IsIn}
 use Rattle.instances.proofs.Gathering.{get_where}
 use Rattle.instances.proofs.InstanceLaws.{is_apart}
 use Rattle.instances.proofs.OnlyLaws.{get_only}
-use Rattle.outside.specs.Changes.{AllTouched, AreTouched, IsChangesOf, TellsChanges, has_changed, is_root, is_touched, is_wanted, old_root_at, old_root, root_above, touches, tree_tables}
+use Rattle.outside.specs.Changes.{AllTouched, AreTouched, IsChangesOf, has_changed, is_root, is_wanted, old_root_at, old_root, root_above, touches, tree_tables}
 use Rattle.outside.specs.Laws.{UntouchedStays, is_told}
-use Rattle.outside.specs.declared.changes.Changes.{Changes}
 use Rattle.outside.specs.declared.changes.Touched.{Touched}
 use Rattle.outside.proofs.RowLaws.{is_same_self, left_of_and, passed, right_of_and, same_is, some_row}
 use Rattle.outside.proofs.TreeLaws.{Built, child_defined, grown_is_built, grown_state, is_low, of_state, one_built, parent_is, place_is, root_place}

@@ -7,14 +7,14 @@ use Rattle.std.specs.FinMap.{contains_key, entries, keys, len, len-entries, valu
 use Rattle.std.proofs.lemmas.Bool.{and_from, cases_lt}
 use Rattle.std.proofs.lemmas.List.{length-map}
 use Rattle.std.proofs.lemmas.Option.{slice_get_within}
-use Rattle.row_types.specs.declared.value.Value.{Value}
-use Rattle.row_types.specs.Order.{key_order}
-use Rattle.row_types.proofs.OrderLaws.{key_total, key_exact}
-use Rattle.table_defs.specs.declared.definition.TableDef.{TableDef}
-use Rattle.table_defs.specs.Declarations.{foreign_places}
+use Rattle.table_state.specs.row_types.specs.declared.value.Value.{Value}
+use Rattle.table_state.specs.row_types.specs.Order.{key_order}
+use Rattle.table_state.specs.row_types.proofs.OrderLaws.{key_total, key_exact}
+use Rattle.table_state.specs.table_defs.specs.declared.definition.TableDef.{TableDef}
+use Rattle.table_state.specs.table_defs.specs.Declarations.{foreign_places}
 use Rattle.table_state.specs.Children.{refers_to}
-use Rattle.indexed_rows.specs.Rows.{Table, first_from, has_key, key_of}
-use Rattle.indexed_rows.proofs.EntryLaws.{behind_split, below_split}
+use Rattle.table_state.specs.indexed_rows.specs.Rows.{Table, first_from, has_key, key_of}
+use Rattle.table_state.specs.indexed_rows.proofs.EntryLaws.{behind_split, below_split}
 use Rattle.table_state.specs.Keyed.{IsUnderKeys}
 use Rattle.own_rows.specs.declared.own.OwnRows.{OwnRows}
 use Rattle.own_rows.specs.Next.{stays_and}

@@ -5,13 +5,13 @@ use Rattle.std.specs.Ordering.{eq_by_cmp, is_eq}
 use Rattle.std.specs.FinMap.{contains_key, empty, get, get-insert, get-remove, insert, len, len-remove, remove, same_map}
 use Rattle.std.proofs.lemmas.Cmp.{tied_itself}
 use Rattle.std.proofs.lemmas.Bool.{cases_eq}
-use Rattle.row_types.specs.declared.value.Value.{Value}
-use Rattle.row_types.specs.Order.{key_order}
-use Rattle.row_types.proofs.OrderLaws.{key_total, key_exact}
-use Rattle.tier_base.specs.declared.number.TableId.{TableId}
-use Rattle.table_defs.specs.declared.definition.TableDef.{TableDef}
-use Rattle.indexed_rows.specs.Rows.{Table, is_same, key_of, put_in}
-use Rattle.indexed_rows.proofs.EntryLaws.{same_values}
+use Rattle.table_state.specs.row_types.specs.declared.value.Value.{Value}
+use Rattle.table_state.specs.row_types.specs.Order.{key_order}
+use Rattle.table_state.specs.row_types.proofs.OrderLaws.{key_total, key_exact}
+use Rattle.table_state.specs.tier_base.specs.declared.number.TableId.{TableId}
+use Rattle.table_state.specs.table_defs.specs.declared.definition.TableDef.{TableDef}
+use Rattle.table_state.specs.indexed_rows.specs.Rows.{Table, is_same, key_of, put_in}
+use Rattle.table_state.specs.indexed_rows.proofs.EntryLaws.{same_values}
 use Rattle.table_state.specs.declared.operation.Op.{Op}
 use Rattle.table_state.specs.declared.operation.Op.TheVariants.{Insert, Update, Delete}
 use Rattle.table_state.specs.Operations.{applied, on_table, only_if, table_of, with_change, with_row, without_row}

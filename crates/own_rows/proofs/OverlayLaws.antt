@@ -2,12 +2,12 @@
 use Rattle.std.proofs.Common.{◌≡◌, ℕ, zero, suc, ◌<◌, ◌≤◌, Option, Some, None, List, [], ◌∷◌, length, drop, slice_get, refl, sym, ap, ◌∙◌, arith}
 use Rattle.std.specs.Option.{unwrap_or}
 use Rattle.std.specs.FinMap.{empty, values}
-use Rattle.row_types.specs.declared.value.Value.{Value}
-use Rattle.table_defs.specs.declared.definition.TableDef.{TableDef}
+use Rattle.table_state.specs.row_types.specs.declared.value.Value.{Value}
+use Rattle.table_state.specs.table_defs.specs.declared.definition.TableDef.{TableDef}
 use Rattle.table_state.specs.Children.{child_from, refers_to}
 use Rattle.std.proofs.lemmas.Option.{slice_get_within}
-use Rattle.tier_base.specs.declared.number.TableId.{TableId}
-use Rattle.indexed_rows.specs.Rows.{Table, first_from}
+use Rattle.table_state.specs.tier_base.specs.declared.number.TableId.{TableId}
+use Rattle.table_state.specs.indexed_rows.specs.Rows.{Table, first_from}
 use Rattle.table_state.specs.Tables.{TableState, table_at}
 use Rattle.own_rows.specs.declared.own.OwnRows.{OwnRows}
 use Rattle.own_rows.specs.Overlays.{FitsOn, left_over, over_all, overlaid}

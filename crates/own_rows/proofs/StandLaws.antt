@@ -6,9 +6,9 @@ use Rattle.std.specs.declared.cmp.Ordering.TheVariants.{Less, Equal, Greater}
 use Rattle.std.specs.FinMap.{contains_key, entries, get, len, len-entries, values}
 use Rattle.std.proofs.lemmas.List.{length-map}
 use Rattle.std.proofs.lemmas.Option.{slice_get_within}
-use Rattle.row_types.specs.declared.value.Value.{Value}
-use Rattle.row_types.proofs.OrderLaws.{key_total, key_exact}
-use Rattle.indexed_rows.specs.Rows.{Table, key_of}
+use Rattle.table_state.specs.row_types.specs.declared.value.Value.{Value}
+use Rattle.table_state.specs.row_types.proofs.OrderLaws.{key_total, key_exact}
+use Rattle.table_state.specs.indexed_rows.specs.Rows.{Table, key_of}
 use Rattle.table_state.specs.Keyed.{IsUnderKeys}
 use Rattle.own_rows.specs.declared.own.OwnRows.{OwnRows}
 use Rattle.own_rows.specs.Ranks.{rank}

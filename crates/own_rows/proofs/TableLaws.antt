@@ -5,10 +5,10 @@ use Rattle.std.specs.declared.cmp.Ordering.TheVariants.{Less, Equal}
 use Rattle.std.specs.FinMap.{entries, get, len, len-entries}
 use Rattle.std.proofs.lemmas.Cmp.{tied_itself}
 use Rattle.std.proofs.lemmas.Option.{slice_get_within}
-use Rattle.row_types.specs.declared.value.Value.{Value}
-use Rattle.row_types.specs.Order.{key_order}
-use Rattle.row_types.proofs.OrderLaws.{key_total, key_exact}
-use Rattle.indexed_rows.specs.Rows.{Table}
+use Rattle.table_state.specs.row_types.specs.declared.value.Value.{Value}
+use Rattle.table_state.specs.row_types.specs.Order.{key_order}
+use Rattle.table_state.specs.row_types.proofs.OrderLaws.{key_total, key_exact}
+use Rattle.table_state.specs.indexed_rows.specs.Rows.{Table}
 use Rattle.own_rows.specs.Ranks.{rank}
 use Rattle.own_rows.proofs.RankLaws.{at_its_rank, entry_there, past_entry, rank_within, up_to_entry}
 

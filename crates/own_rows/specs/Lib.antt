@@ -9,3 +9,8 @@ pub mod Ranks
 pub mod Seeking
 pub mod Stands
 pub mod Starts
+pub use Rattle.table_state.specs.tier_base
+pub use Rattle.table_state.specs.row_types
+pub use Rattle.table_state.specs.table_defs
+pub use Rattle.table_state.specs.indexed_rows
+pub use Rattle.table_state

@@ -3,8 +3,8 @@
 use Rattle.std.specs.Prelude.{refl}
 use Rattle.std.specs.Coded.{Coded, code_by, coded×, coded_list}
 use Rattle.std.specs.FinMap as map
-use Rattle.row_types.specs.contracts.value.Value as one
-use Rattle.indexed_rows.specs.Rows.{Table}
+use Rattle.table_state.specs.row_types.specs.contracts.value.Value as one
+use Rattle.table_state.specs.indexed_rows.specs.Rows.{Table}
 use Rattle.own_rows.specs.declared.own.OwnRows.{OwnRows}
 
 abbrev pub table_code : Coded Table

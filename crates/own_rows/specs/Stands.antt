@@ -4,8 +4,8 @@ use Rattle.std.specs.Prelude.{◌≡◌, ℕ, ◌<◌, List, Some, false, slice_
 use Rattle.std.specs.FinMap.{contains_key, entries}
 use Rattle.std.specs.declared.cmp.Ordering.{Ordering}
 use Rattle.std.specs.declared.cmp.Ordering.TheVariants.{Less, Equal, Greater}
-use Rattle.row_types.specs.declared.value.Value.{Value}
-use Rattle.indexed_rows.specs.Rows.{Table}
+use Rattle.table_state.specs.row_types.specs.declared.value.Value.{Value}
+use Rattle.table_state.specs.indexed_rows.specs.Rows.{Table}
 use Rattle.own_rows.specs.declared.own.OwnRows.{OwnRows}
 use Rattle.own_rows.specs.declared.seeking.Stand.{Stand}
 use Rattle.own_rows.specs.declared.seeking.Stand.TheVariants.{Under, Fresh}

@@ -3,10 +3,10 @@
 ghost use Rattle.std.specs.Prelude.{◌≡◌, ◌||◌, ◌<◌, ◌^◌, List, Some, drop, slice_get};
 ghost use Rattle.std.specs.FinMap as map;
 ghost use Rattle.std.specs.Ordering.{is_lt};
-ghost use Rattle.row_types.specs.declared.value.Value.{Value};
-ghost use Rattle.row_types.specs.Order.{key_order};
-ghost use Rattle.table_defs.specs.Declarations.{foreign_places};
-ghost use Rattle.indexed_rows.specs.Rows.{first_from, key_of};
+ghost use Rattle.table_state.specs.row_types.specs.declared.value.Value.{Value};
+ghost use Rattle.table_state.specs.row_types.specs.Order.{key_order};
+ghost use Rattle.table_state.specs.table_defs.specs.Declarations.{foreign_places};
+ghost use Rattle.table_state.specs.indexed_rows.specs.Rows.{first_from, key_of};
 ghost use Rattle.table_state.specs.Children.{refers_to};
 ghost use Rattle.table_state.specs.Tables.{table_at};
 ghost use Rattle.table_state.specs.Keyed.{IsUnderKeys};
@@ -19,11 +19,11 @@ use crate::own::OwnRows;
 use crate::search::{has_same_key, order_to_row, rank_of_key, rank_of_row};
 use crate::seeking::{Stand, seek};
 use crate::table_rows::len_in;
-use row_types::{Key, Row};
 use std::cmp::Ordering;
-use table_defs::{ForeignKey, TableDef};
 use table_state::Scan;
-use tier_base::TableId;
+use table_state::row_types::{Key, Row};
+use table_state::table_defs::{ForeignKey, TableDef};
+use table_state::tier_base::TableId;
 
 /// The first place, from a place on, of a row that refers to the key by its table's foreign key.
 pub(crate) fn child_in<S: Scan>(

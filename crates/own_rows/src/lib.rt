@@ -15,4 +15,6 @@ pub use overlay::Overlay;
 pub use own::OwnRows;
 pub use search::has_same_key;
 pub use steps::{Step, Steps, steps_of};
+pub use table_state;
+pub use table_state::{indexed_rows, row_types, table_defs, tier_base};
 pub use tables::OwnTables;

@@ -6,10 +6,10 @@ ghost use Rattle.own_rows.specs.Overlays.{FitsOn, overlaid};
 use crate::children::child_in;
 use crate::own::{OwnRows, own_of};
 use crate::table_rows::{find_in, len_in, row_in};
-use row_types::{Key, Row};
-use table_defs::BackingSchema;
 use table_state::Scan;
-use tier_base::TableId;
+use table_state::row_types::{Key, Row};
+use table_state::table_defs::BackingSchema;
+use table_state::tier_base::TableId;
 
 /// The tables of a scan with a session's own operations over them. No row is copied, and no call takes memory.
 pub struct Overlay<'a, S: Scan> {

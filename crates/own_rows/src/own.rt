@@ -4,9 +4,9 @@ ghost use Rattle.std.specs.Prelude.{◌≡◌, ◌+◌, ◌<◌, ◌^◌, [], op
 ghost use Rattle.std.specs.FinMap as map;
 ghost use Rattle.own_rows.specs.Laying.{HasRoom, with_changed, with_new, without};
 
-use indexed_rows::{IndexedRows, Rows, Spare};
 use std::alloc::Global;
-use tier_base::TableId;
+use table_state::indexed_rows::{IndexedRows, Rows, Spare};
+use table_state::tier_base::TableId;
 
 /// The own rows of a table.
 pub(crate) fn own_of(own: &[OwnRows], table: TableId) -> Option<&OwnRows>

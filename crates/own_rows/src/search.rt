@@ -2,13 +2,13 @@
 
 ghost use Rattle.std.specs.Prelude.{◌≡◌, ◌<◌, ◌≤◌, ◌^◌, option_copied};
 ghost use Rattle.std.specs.FinMap as map;
-ghost use Rattle.row_types.specs.Order.{key_order, order_of};
-ghost use Rattle.indexed_rows.specs.Rows.{key_of, value_at};
+ghost use Rattle.table_state.specs.row_types.specs.Order.{key_order, order_of};
+ghost use Rattle.table_state.specs.indexed_rows.specs.Rows.{key_of, value_at};
 ghost use Rattle.own_rows.specs.Ranks.{rank};
 
-use indexed_rows::Rows;
-use row_types::{Key, Row, Value, order};
 use std::cmp::Ordering;
+use table_state::indexed_rows::Rows;
+use table_state::row_types::{Key, Row, Value, order};
 
 /// The order of a key and that of a row, whose values stand at these places.
 pub(crate) fn order_to_row(key: &Key, places: &[usize], row: &Row) -> Ordering

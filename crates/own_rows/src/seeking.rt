@@ -1,9 +1,9 @@
 //! Where the row at a place stands, where own rows lie over those of a table.
 
 ghost use Rattle.std.specs.Prelude.{◌≡◌, ℕ, ◌+◌, ◌-◌, ◌<◌, ◌≤◌, ◌^◌, ◌⊎◌, List, Some, slice_get};
-ghost use Rattle.row_types.specs.declared.value.Value.{Value};
+ghost use Rattle.table_state.specs.row_types.specs.declared.value.Value.{Value};
 ghost use Rattle.std.specs.FinMap as map;
-ghost use Rattle.indexed_rows.specs.Rows.{Table, key_of};
+ghost use Rattle.table_state.specs.indexed_rows.specs.Rows.{Table, key_of};
 ghost use Rattle.table_state.specs.Tables.{table_at};
 ghost use Rattle.table_state.specs.Keyed.{IsUnderKeys};
 ghost use Rattle.own_rows.specs.Ranks.{rank};
@@ -12,10 +12,10 @@ ghost use Rattle.own_rows.specs.Stands.{IsSide, IsStand};
 
 use crate::own::OwnRows;
 use crate::search::{has_same_key, rank_of_row};
-use row_types::Row;
 use std::cmp::Ordering;
 use table_state::Scan;
-use tier_base::TableId;
+use table_state::row_types::Row;
+use table_state::tier_base::TableId;
 
 // How often a guess is tried before halving. Own rows are mostly few, so that the first or second guess is right.
 const GUESSES: u32 = 3;

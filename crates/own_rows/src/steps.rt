@@ -2,18 +2,18 @@
 
 ghost use Rattle.std.specs.Prelude.{◌≡◌, ◌<◌, ◌+◌, ◌^◌, [], All, IfOk, Some, length, slice_get, slice_set};
 ghost use Rattle.std.specs.FinMap as map;
-ghost use Rattle.indexed_rows.specs.Rows.{key_of, put_in};
+ghost use Rattle.table_state.specs.indexed_rows.specs.Rows.{key_of, put_in};
 ghost use Rattle.own_rows.specs.declared.own.OwnRows.{OwnRows as Own};
 ghost use Rattle.own_rows.specs.Laying.{AreReady, AreStepsOf, HasRoom, HaveRoom, IsReady, IsStepIn, IsStepOf, stepped, stepped_all};
 ghost use Rattle.table_state.specs.Operations.{table_of};
 
 use crate::own::OwnRows;
-use indexed_rows::Spare;
-use row_types::Row;
 use std::alloc::{AllocError, Global};
-use table_defs::{BackingSchema, TableDef};
+use table_state::indexed_rows::Spare;
+use table_state::row_types::Row;
+use table_state::table_defs::{BackingSchema, TableDef};
+use table_state::tier_base::{Seq, TableId};
 use table_state::{Op, key_of_row};
-use tier_base::{Seq, TableId};
 
 /// How one operation changes the own rows of its table.
 pub enum Step {

@@ -2,7 +2,7 @@
 
 ghost use Rattle.std.specs.Prelude.{◌≡◌, ◌<◌, ◌^◌, option_copied, slice_get, unwrap_or};
 ghost use Rattle.std.specs.FinMap as map;
-ghost use Rattle.indexed_rows.specs.Rows.{key_of};
+ghost use Rattle.table_state.specs.indexed_rows.specs.Rows.{key_of};
 ghost use Rattle.table_state.specs.Tables.{table_at};
 ghost use Rattle.table_state.specs.Keyed.{IsUnderKeys};
 ghost use Rattle.own_rows.specs.Overlays.{AgreesWith, left_over};
@@ -10,9 +10,9 @@ ghost use Rattle.own_rows.specs.Overlays.{AgreesWith, left_over};
 use crate::own::OwnRows;
 use crate::search::row_of_same_key;
 use crate::seeking::{Stand, seek};
-use row_types::{Key, Row};
 use table_state::Scan;
-use tier_base::TableId;
+use table_state::row_types::{Key, Row};
+use table_state::tier_base::TableId;
 
 /// How many rows there are.
 pub(crate) fn len_in<S: Scan>(under: &S, table: TableId, own: &OwnRows) -> usize

@@ -1,7 +1,7 @@
 //! What open operations leave of all tables.
 
 ghost use Rattle.std.specs.Prelude.{◌≡◌, ℕ, ◌+◌, ◌++◌, ◌<◌, ◌≤◌, ◌^◌, [], List, OnOk, length};
-ghost use Rattle.table_defs.specs.declared.definition.TableDef.{TableDef as Def};
+ghost use Rattle.table_state.specs.table_defs.specs.declared.definition.TableDef.{TableDef as Def};
 ghost use Rattle.table_state.specs.declared.operation.Op.{Op};
 
 use crate::overlay::Overlay;
@@ -10,8 +10,8 @@ use crate::steps::{Steps, lay_all};
 use crate::widening::widen_rows;
 use std::alloc::{AllocError, Global};
 use std::marker::Model;
-use table_defs::BackingSchema;
 use table_state::Scan;
+use table_state::table_defs::BackingSchema;
 
 /// What open operations leave of each table, by its place in the schema. Tables past the end have no own rows. Clauses
 /// see a list.

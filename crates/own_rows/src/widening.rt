@@ -2,15 +2,15 @@
 
 ghost use Rattle.std.specs.Prelude.{◌≡◌, ℕ, ◌<◌, ◌≤◌, ◌^◌, IfOk, List, OnOk, length};
 ghost use Rattle.std.specs.FinMap as map;
-ghost use Rattle.table_defs.specs.declared.definition.TableDef.{TableDef as Def};
+ghost use Rattle.table_state.specs.table_defs.specs.declared.definition.TableDef.{TableDef as Def};
 ghost use Rattle.table_state.specs.declared.operation.Op.{Op};
 ghost use Rattle.own_rows.specs.Laying.{HaveRoom};
 ghost use Rattle.own_rows.specs.OwnTables.{AreRowsOf};
 
 use crate::own::OwnRows;
-use indexed_rows::{IndexedRows, Rows};
 use std::alloc::{AllocError, Global};
-use table_defs::{BackingSchema, ForeignKey, TableDef, copied_places};
+use table_state::indexed_rows::{IndexedRows, Rows};
+use table_state::table_defs::{BackingSchema, ForeignKey, TableDef, copied_places};
 
 // No rows, with an index by parent where there is a foreign key.
 fn bare_rows(alloc: Global, foreign_key: &Option<ForeignKey>) -> Result<IndexedRows, AllocError>

@@ -6,12 +6,12 @@ use Rattle.std.specs.Ordering.{eq_by_cmp, is_eq}
 use Rattle.std.specs.FinMap.{find, put, is_sorted}
 use Rattle.std.specs.FinMap.Entries.{is_sorted-put}
 use Rattle.std.specs.FinMap as fm
-use Rattle.row_types.specs.declared.value.Value.{Value}
-use Rattle.row_types.specs.Order.{key_order}
+use Rattle.table_state.specs.row_types.specs.declared.value.Value.{Value}
+use Rattle.table_state.specs.row_types.specs.Order.{key_order}
 use Rattle.pending_writes.specs.declared.writers.Writer.{Writer}
-use Rattle.row_types.proofs.OrderLaws.{key_total, key_exact}
+use Rattle.table_state.specs.row_types.proofs.OrderLaws.{key_total, key_exact}
 use Rattle.pending_writes.specs.Places.{Entries, IsKeyAt, IsGapFor}
-use Rattle.indexed_rows.proofs.Sorted.{rising, split_absent, split_put, key_at, find_at, put_at, sorted_remove, find_remove}
+use Rattle.table_state.specs.indexed_rows.proofs.Sorted.{rising, split_absent, split_put, key_at, find_at, put_at, sorted_remove, find_remove}
 
 abbrev Table : Type 0
 Table = fm.FinMap key_order (Option Writer)

@@ -7,13 +7,13 @@ use Rattle.std.specs.Result.{OnErr, OnOk}
 use Rattle.std.proofs.lemmas.Option.{get_or_from_slice_get, slice_get_within}
 use Rattle.std.proofs.lemmas.Bool.{cases_eq, ne_eqb}
 use Rattle.std.proofs.lemmas.List.{take_more}
-use Rattle.row_types.specs.declared.value.Value.{Value}
-use Rattle.row_types.specs.Order.{key_order}
-use Rattle.row_types.proofs.OrderLaws.{key_total}
-use Rattle.tier_base.specs.declared.number.Ticket.{Ticket}
-use Rattle.table_defs.specs.declared.definition.TableDef.{TableDef}
-use Rattle.indexed_rows.specs.Rows.{is_same}
-use Rattle.indexed_rows.proofs.EntryLaws.{decided, same_itself, same_values}
+use Rattle.table_state.specs.row_types.specs.declared.value.Value.{Value}
+use Rattle.table_state.specs.row_types.specs.Order.{key_order}
+use Rattle.table_state.specs.row_types.proofs.OrderLaws.{key_total}
+use Rattle.table_state.specs.tier_base.specs.declared.number.Ticket.{Ticket}
+use Rattle.table_state.specs.table_defs.specs.declared.definition.TableDef.{TableDef}
+use Rattle.table_state.specs.indexed_rows.specs.Rows.{is_same}
+use Rattle.table_state.specs.indexed_rows.proofs.EntryLaws.{decided, same_itself, same_values}
 use Rattle.table_state.specs.declared.footprint.RowKey.{RowKey}
 use Rattle.table_state.specs.declared.history.Sealed.{Sealed}
 use Rattle.table_state.specs.declared.operation.Op.{Op}

@@ -1,8 +1,8 @@
 -- Where a key stands among entries in key order (this project's rule).
 use Rattle.std.specs.Prelude.{ℕ, ◌≡◌, List, Option, map, slice_get, Some, None, insert}
 use Rattle.std.specs.FinMap.{find, put}
-use Rattle.row_types.specs.declared.value.Value.{Value}
-use Rattle.row_types.specs.Order.{key_order}
+use Rattle.table_state.specs.row_types.specs.declared.value.Value.{Value}
+use Rattle.table_state.specs.row_types.specs.Order.{key_order}
 use Rattle.pending_writes.specs.declared.writers.Writer.{Writer}
 
 -- keys, each with its writer

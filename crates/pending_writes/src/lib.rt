@@ -6,4 +6,6 @@ mod writers;
 mod writes;
 
 pub use pending::PendingWrites;
+pub use table_state;
+pub use table_state::{indexed_rows, row_types, table_defs, tier_base};
 pub use writers::{Writer, Writers};

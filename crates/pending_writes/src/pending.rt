@@ -1,7 +1,7 @@
 //! Who wrote the keys of all tables last.
 
 ghost use Rattle.std.specs.Prelude.{◌≡◌, ◌∷◌, ◌++◌, ◌<◌, ◌≤◌, ℕ, [], All, IfOk, List, OnErr, OnOk, length, option_map, true};
-ghost use Rattle.table_defs.specs.declared.definition.TableDef.{TableDef as Def};
+ghost use Rattle.table_state.specs.table_defs.specs.declared.definition.TableDef.{TableDef as Def};
 ghost use Rattle.table_state.specs.declared.footprint.RowKey.{RowKey as OneKey};
 ghost use Rattle.table_state.specs.declared.history.Sealed.{Sealed as OneSealed};
 ghost use Rattle.pending_writes.specs.LastWriters.{last_writer};
@@ -9,11 +9,11 @@ ghost use Rattle.pending_writes.specs.Noting.{AllStaySince, AreEntered, IsEntere
 
 use crate::writers::{Writer, Writers};
 use crate::writes::{Write, writes_of};
-use row_types::Key;
 use std::alloc::{AllocError, Global};
-use table_defs::BackingSchema;
+use table_state::row_types::Key;
+use table_state::table_defs::BackingSchema;
+use table_state::tier_base::{TableId, Ticket};
 use table_state::{Op, Sealed};
-use tier_base::{TableId, Ticket};
 
 /// The last writer of each key, of the transactions that wait for their receipt, by the place of its table in the
 /// schema. What is kept of transactions that don't wait any more has tickets below those of all that wait, and says

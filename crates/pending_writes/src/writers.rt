@@ -4,16 +4,16 @@ ghost use Rattle.std.specs.Prelude.{◌≡◌, ◌<◌, IfErr, IfOk, None, OnErr
 ghost use Rattle.std.specs.Bool.{OnTrue};
 ghost use Rattle.std.specs.List.Sorted.{IsSearchInRange};
 ghost use Rattle.std.specs.FinMap as map;
-ghost use Rattle.row_types.specs.Order.{key_order};
+ghost use Rattle.table_state.specs.row_types.specs.Order.{key_order};
 ghost use Rattle.pending_writes.specs.Places.{IsGapFor, IsKeyAt};
 ghost use Rattle.pending_writes.specs.Noting.{IsIdleAt, StaysSince, entered, since};
 
-use long_list::{LongList, Probe};
-use row_types::Key;
 use std::alloc::{AllocError, Global};
 use std::cmp::Ordering;
 use std::marker::Model;
-use tier_base::Ticket;
+use table_state::long_list::{LongList, Probe};
+use table_state::row_types::Key;
+use table_state::tier_base::Ticket;
 
 /// A transaction that wrote a key.
 #[derive(Clone, Copy)]
@@ -48,9 +48,9 @@ pub struct Writers {
 impl Model for Writers {
     ghost use Rattle.std.specs.Prelude.{Option, T};
     ghost use Rattle.std.specs.FinMap as map;
-    ghost use Rattle.row_types.specs.Order.{key_order};
+    ghost use Rattle.table_state.specs.row_types.specs.Order.{key_order};
     ghost use Rattle.std.specs.Coded.{coded_list, coded_option};
-    ghost use Rattle.row_types.specs.contracts.value.Value as value;
+    ghost use Rattle.table_state.specs.row_types.specs.contracts.value.Value as value;
     ghost use Rattle.pending_writes.specs.contracts.writers.Writer as one;
     ghost use Rattle.pending_writes.specs.declared.writers.Writer.{Writer as OneWriter};
 

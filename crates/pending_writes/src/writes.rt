@@ -6,11 +6,11 @@ ghost use Rattle.pending_writes.specs.LastWriters.{last_left, left_by_row, left_
 ghost use Rattle.pending_writes.specs.Noting.{IsEntered, NotesMore, noted, told_by};
 
 use crate::writers::{Writer, Writers};
-use row_types::{Key, Row};
 use std::alloc::{AllocError, Global};
-use table_defs::{BackingSchema, TableDef};
+use table_state::row_types::{Key, Row};
+use table_state::table_defs::{BackingSchema, TableDef};
+use table_state::tier_base::{TableId, Ticket};
 use table_state::{Op, key_of_row};
-use tier_base::{TableId, Ticket};
 
 /// A key that an operation writes.
 pub(crate) struct Write {

@@ -1,27 +1,27 @@
 -- AGING clauses that are put are read back.
 use Rattle.std.proofs.Common.{◌≡◌, ℕ, Bool, true, false, List, [], ◌∷◌, ◌++◌, drop, codes, refl, sym, ap, append_assoc}
 use Rattle.std.specs.Fmt.{decimal}
-use Rattle.sql_tokens.specs.declared.kind.Kind.{Kind}
-use Rattle.sql_tokens.specs.declared.kind.Kind.TheVariants as k
-use Rattle.sql_tokens.specs.Words.{word_kind}
-use Rattle.sql_tokens.specs.Lexing.{Lexeme}
-use Rattle.sql_grammar.specs.declared.rule.Rule.TheVariants as rules
-use Rattle.sql_grammar.specs.declared.test.Test.TheVariants.{LifetimeUnit, Name, Whole}
-use Rattle.sql_grammar.specs.Sql.{rule as grammar_rule}
-use Rattle.sql_grammar.specs.Grammar.{Grammar, Parts, Part, Reads, Empty, Named, Token, token, both, this, that, empty, named}
-use Rattle.sql_grammar.specs.Notation.{choice, optional, the, ◌▸◌}
-use Rattle.sql_subset.specs.declared.stmt.AgingClause.{AgingClause}
-use Rattle.sql_subset.specs.declared.stmt.AgingRule.{AgingRule}
-use Rattle.sql_subset.specs.declared.stmt.AgingRule.TheVariants as rule
-use Rattle.sql_subset.specs.declared.stmt.TimeAging.{TimeAging}
-use Rattle.sql_subset.specs.Groups.{aging_rule_of, cycle_of, long_of, span_of, switched, time_lasting, time_named, time_rule_of, timed}
-use Rattle.sql_phrases.specs.Reading.{first_kind, identifier_of}
-use Rattle.sql_words.specs.Words.{Word}
+use Rattle.sql_print.specs.sql_tokens.specs.declared.kind.Kind.{Kind}
+use Rattle.sql_print.specs.sql_tokens.specs.declared.kind.Kind.TheVariants as k
+use Rattle.sql_print.specs.sql_tokens.specs.Words.{word_kind}
+use Rattle.sql_print.specs.sql_tokens.specs.Lexing.{Lexeme}
+use Rattle.sql_print.specs.sql_grammar.specs.declared.rule.Rule.TheVariants as rules
+use Rattle.sql_print.specs.sql_grammar.specs.declared.test.Test.TheVariants.{LifetimeUnit, Name, Whole}
+use Rattle.sql_print.specs.sql_grammar.specs.Sql.{rule as grammar_rule}
+use Rattle.sql_print.specs.sql_grammar.specs.Grammar.{Grammar, Parts, Part, Reads, Empty, Named, Token, token, both, this, that, empty, named}
+use Rattle.sql_print.specs.sql_grammar.specs.Notation.{choice, optional, the, ◌▸◌}
+use Rattle.sql_print.specs.sql_subset.specs.declared.stmt.AgingClause.{AgingClause}
+use Rattle.sql_print.specs.sql_subset.specs.declared.stmt.AgingRule.{AgingRule}
+use Rattle.sql_print.specs.sql_subset.specs.declared.stmt.AgingRule.TheVariants as rule
+use Rattle.sql_print.specs.sql_subset.specs.declared.stmt.TimeAging.{TimeAging}
+use Rattle.sql_print.specs.sql_subset.specs.Groups.{aging_rule_of, cycle_of, long_of, span_of, switched, time_lasting, time_named, time_rule_of, timed}
+use Rattle.sql_print.specs.sql_phrases.specs.Reading.{first_kind, identifier_of}
+use Rattle.sql_print.specs.sql_words.specs.Words.{Word}
 use Rattle.sql_print.specs.Groups.{rule_words, switch_word}
 use Rattle.print_laws.proofs.Keywords.{cycle_word, lifetime_word, lru_word, off_word, on_word, seconds_word, use_word}
 use Rattle.print_laws.proofs.Literals.{digits_lexes, digits_whole}
 use Rattle.print_laws.proofs.Names.{IsIdentifier, put_identifier}
-use Rattle.print_laws.proofs.Numbers.{IsCapped, decimal_digits, number_once}
+use Rattle.print_laws.proofs.NumberLaws.{IsCapped, decimal_digits, number_once}
 use Rattle.print_laws.proofs.Put.{Put, put_both, put_last, put_map, put_word, put_words}
 
 pub record IsTime (x : TimeAging) : Type 0 where

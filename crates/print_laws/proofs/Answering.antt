@@ -1,15 +1,15 @@
 -- What bytes spell is the only answer to them.
 use Rattle.std.proofs.Common.{◌≡◌, ℕ, List, Result, Ok, Err, sym, ◌∙◌, subst}
-use Rattle.sql_tokens.specs.Lexing.{lexed}
-use Rattle.sql_grammar.specs.declared.engine.Verdict.{Verdict}
-use Rattle.sql_grammar.specs.declared.engine.Verdict.TheVariants as verdicts
-use Rattle.sql_grammar.specs.declared.start.Start.TheVariants as starts
-use Rattle.sql_grammar.specs.Sql.{grammar_of}
-use Rattle.sql_grammar.proofs.Unique.{unique}
-use Rattle.sql_subset.specs.declared.request.ParseError.{ParseError}
-use Rattle.sql_subset.specs.declared.request.ParseError.TheVariants as errors
-use Rattle.sql_subset.specs.declared.stmt.Stmt.{Stmt}
-use Rattle.sql_subset.specs.Lines.{Parses, Spells, Unspelt, kinds_in}
+use Rattle.sql_print.specs.sql_tokens.specs.Lexing.{lexed}
+use Rattle.sql_print.specs.sql_grammar.specs.declared.engine.Verdict.{Verdict}
+use Rattle.sql_print.specs.sql_grammar.specs.declared.engine.Verdict.TheVariants as verdicts
+use Rattle.sql_print.specs.sql_grammar.specs.declared.start.Start.TheVariants as starts
+use Rattle.sql_print.specs.sql_grammar.specs.Sql.{grammar_of}
+use Rattle.sql_print.specs.sql_grammar.proofs.Unique.{unique}
+use Rattle.sql_print.specs.sql_subset.specs.declared.request.ParseError.{ParseError}
+use Rattle.sql_print.specs.sql_subset.specs.declared.request.ParseError.TheVariants as errors
+use Rattle.sql_print.specs.sql_subset.specs.declared.stmt.Stmt.{Stmt}
+use Rattle.sql_print.specs.sql_subset.specs.Lines.{Parses, Spells, Unspelt, kinds_in}
 use Rattle.print_laws.specs.Laws.{IsAnswer}
 
 fits_not_at : (i : ℕ) → ◌≡◌ {A = Verdict} verdicts.Fits (verdicts.At i) → ⊥

@@ -1,18 +1,18 @@
 -- What is read off the line of a session.
 use Rattle.std.proofs.Common.{◌≡◌, ℕ, Bool, true, false, cond, List, drop, length, Option, Some, None, refl, sym, subst}
-use Rattle.sql_tokens.specs.declared.kind.Kind.TheVariants as k
-use Rattle.sql_tokens.specs.Lexing.{Lexeme, lexed}
-use Rattle.sql_tokens.specs.Heads.{head_end, head_of}
-use Rattle.sql_grammar.specs.declared.start.Start.{Start}
-use Rattle.sql_grammar.specs.declared.start.Start.TheVariants as starts
-use Rattle.sql_grammar.specs.Sql.{grammar_of}
-use Rattle.sql_grammar.specs.Verdict.{IsSpelt}
-use Rattle.sql_subset.specs.declared.request.Line.TheVariants.{Session}
-use Rattle.sql_subset.specs.declared.request.Request.TheVariants.{Close, Open, Statement}
-use Rattle.sql_subset.specs.declared.stmt.Stmt.{Stmt}
-use Rattle.sql_subset.specs.Lines.{Checked, Headed, Heard, Means, Says, Spoken, is_silent, is_spoilt, kinds_in, start_of}
-use Rattle.sql_subset.specs.Statements.{open_with, passthrough_of, request_of, statement_of}
-use Rattle.sql_phrases.specs.Reading.{begins}
+use Rattle.sql_print.specs.sql_tokens.specs.declared.kind.Kind.TheVariants as k
+use Rattle.sql_print.specs.sql_tokens.specs.Lexing.{Lexeme, lexed}
+use Rattle.sql_print.specs.sql_tokens.specs.Heads.{head_end, head_of}
+use Rattle.sql_print.specs.sql_grammar.specs.declared.start.Start.{Start}
+use Rattle.sql_print.specs.sql_grammar.specs.declared.start.Start.TheVariants as starts
+use Rattle.sql_print.specs.sql_grammar.specs.Sql.{grammar_of}
+use Rattle.sql_print.specs.sql_grammar.specs.Verdict.{IsSpelt}
+use Rattle.sql_print.specs.sql_subset.specs.declared.request.Line.TheVariants.{Session}
+use Rattle.sql_print.specs.sql_subset.specs.declared.request.Request.TheVariants.{Close, Open, Statement}
+use Rattle.sql_print.specs.sql_subset.specs.declared.stmt.Stmt.{Stmt}
+use Rattle.sql_print.specs.sql_subset.specs.Lines.{Checked, Headed, Heard, Means, Says, Spoken, is_silent, is_spoilt, kinds_in, start_of}
+use Rattle.sql_print.specs.sql_subset.specs.Statements.{open_with, passthrough_of, request_of, statement_of}
+use Rattle.sql_print.specs.sql_phrases.specs.Reading.{begins}
 use Rattle.print_laws.proofs.Fits.{Fits, all_fit}
 use Rattle.print_laws.proofs.Lists.{AllGood}
 use Rattle.print_laws.proofs.Spelling.{IsStatement}

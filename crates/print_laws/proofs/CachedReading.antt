@@ -1,23 +1,23 @@
 -- What is read off the tokens of bytes without a bad one: tables of cache groups.
 use Rattle.std.proofs.Common.{◌≡◌, ℕ, zero, suc, ◌≤◌, Bool, true, false, List, [], ◌∷◌, length, drop, refl, sym, ap, ◌∙◌, subst, arith}
 use Rattle.std.proofs.lemmas.Bool.Decides.{nat_tests}
-use Rattle.sql_tokens.specs.declared.kind.Kind.{Kind}
-use Rattle.sql_tokens.specs.declared.kind.Kind.TheVariants as k
-use Rattle.sql_tokens.specs.Kinds.{is_kind}
-use Rattle.sql_tokens.specs.Lexing.{Lexeme}
-use Rattle.sql_grammar.specs.declared.rule.Rule.TheVariants as rules
-use Rattle.sql_grammar.specs.declared.test.Test.TheVariants.{Name, Column}
-use Rattle.sql_grammar.specs.Tests.{passes}
-use Rattle.sql_grammar.specs.Grammar.{Grammar, Parts, Part, Empty, Named, Token}
-use Rattle.sql_grammar.specs.Notation.{choice, the, ◌▸◌}
-use Rattle.sql_grammar.specs.Tables.{attribute, cached_after_foreign, cached_after_key, column_rest, foreign_rest, key_rest, more_cached_columns}
-use Rattle.sql_phrases.specs.declared.tables.CacheTable.{CacheTable}
-use Rattle.sql_phrases.specs.declared.tables.TableAttribute.{TableAttribute}
-use Rattle.sql_phrases.specs.declared.tables.TableAttribute.TheVariants as attributes
-use Rattle.sql_phrases.specs.declared.tables.Element.{Element}
-use Rattle.sql_phrases.specs.declared.tables.Element.TheVariants as elements
-use Rattle.sql_phrases.specs.Reading.{at_comma, begins, chained, first_kind, name_of, past_one}
-use Rattle.sql_phrases.specs.Tables.{column_of, element_of, table_of, table_with, with_element}
+use Rattle.sql_print.specs.sql_tokens.specs.declared.kind.Kind.{Kind}
+use Rattle.sql_print.specs.sql_tokens.specs.declared.kind.Kind.TheVariants as k
+use Rattle.sql_print.specs.sql_tokens.specs.Kinds.{is_kind}
+use Rattle.sql_print.specs.sql_tokens.specs.Lexing.{Lexeme}
+use Rattle.sql_print.specs.sql_grammar.specs.declared.rule.Rule.TheVariants as rules
+use Rattle.sql_print.specs.sql_grammar.specs.declared.test.Test.TheVariants.{Name, Column}
+use Rattle.sql_print.specs.sql_grammar.specs.Tests.{passes}
+use Rattle.sql_print.specs.sql_grammar.specs.Grammar.{Grammar, Parts, Part, Empty, Named, Token}
+use Rattle.sql_print.specs.sql_grammar.specs.Notation.{choice, the, ◌▸◌}
+use Rattle.sql_print.specs.sql_grammar.specs.Tables.{attribute, cached_after_foreign, cached_after_key, column_rest, foreign_rest, key_rest, more_cached_columns}
+use Rattle.sql_print.specs.sql_phrases.specs.declared.tables.CacheTable.{CacheTable}
+use Rattle.sql_print.specs.sql_phrases.specs.declared.tables.TableAttribute.{TableAttribute}
+use Rattle.sql_print.specs.sql_phrases.specs.declared.tables.TableAttribute.TheVariants as attributes
+use Rattle.sql_print.specs.sql_phrases.specs.declared.tables.Element.{Element}
+use Rattle.sql_print.specs.sql_phrases.specs.declared.tables.Element.TheVariants as elements
+use Rattle.sql_print.specs.sql_phrases.specs.Reading.{at_comma, begins, chained, first_kind, name_of, past_one}
+use Rattle.sql_print.specs.sql_phrases.specs.Tables.{column_of, element_of, table_of, table_with, with_element}
 use Rattle.print_laws.proofs.Fits.{Fits}
 use Rattle.print_laws.proofs.Lists.{AllGood}
 use Rattle.print_laws.proofs.Reading.{Goes, Tabled, close_got, column_element, column_got, foreign_element, key_element, more_got, name_got, no_tokens, one_kind}

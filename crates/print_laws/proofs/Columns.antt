@@ -1,19 +1,19 @@
 -- Columns that are put are read back.
 use Rattle.std.proofs.Common.{◌≡◌, ℕ, Bool, true, false, cond, List, [], ◌∷◌, ◌++◌, drop, codes, Option, Some, None, refl, sym, ap, append_assoc}
-use Rattle.row_types.specs.declared.declaration.TypeDeclaration.{TypeDeclaration}
-use Rattle.row_types.specs.declared.declaration.TypeDeclaration.TheVariants as types
-use Rattle.row_types.specs.declared.declaration.ColumnDeclaration.{ColumnDeclaration}
-use Rattle.sql_tokens.specs.declared.kind.Kind.TheVariants as k
-use Rattle.sql_tokens.specs.Words.{word_kind}
-use Rattle.sql_tokens.specs.Lexing.{Lexeme}
-use Rattle.sql_grammar.specs.declared.test.Test.TheVariants.{Name, Whole}
-use Rattle.sql_grammar.specs.Grammar.{Grammar, Empty, Token, token, both, this, that, empty}
-use Rattle.sql_grammar.specs.Notation.{optional, the, ◌▸◌}
-use Rattle.sql_grammar.specs.Tables.{column_rest, column_type}
-use Rattle.sql_phrases.specs.Reading.{begins, first_text, identifier_of}
-use Rattle.sql_phrases.specs.Tables.{column_named, column_of, column_typed, number_type, past_two, past_word, text_type, time_type, type_of}
-use Rattle.sql_words.specs.Words.{Word, where_so}
-use Rattle.sql_words.specs.Tables.{column_words, mark_words, type_words}
+use Rattle.sql_print.specs.row_types.specs.declared.declaration.TypeDeclaration.{TypeDeclaration}
+use Rattle.sql_print.specs.row_types.specs.declared.declaration.TypeDeclaration.TheVariants as types
+use Rattle.sql_print.specs.row_types.specs.declared.declaration.ColumnDeclaration.{ColumnDeclaration}
+use Rattle.sql_print.specs.sql_tokens.specs.declared.kind.Kind.TheVariants as k
+use Rattle.sql_print.specs.sql_tokens.specs.Words.{word_kind}
+use Rattle.sql_print.specs.sql_tokens.specs.Lexing.{Lexeme}
+use Rattle.sql_print.specs.sql_grammar.specs.declared.test.Test.TheVariants.{Name, Whole}
+use Rattle.sql_print.specs.sql_grammar.specs.Grammar.{Grammar, Empty, Token, token, both, this, that, empty}
+use Rattle.sql_print.specs.sql_grammar.specs.Notation.{optional, the, ◌▸◌}
+use Rattle.sql_print.specs.sql_grammar.specs.Tables.{column_rest, column_type}
+use Rattle.sql_print.specs.sql_phrases.specs.Reading.{begins, first_text, identifier_of}
+use Rattle.sql_print.specs.sql_phrases.specs.Tables.{column_named, column_of, column_typed, number_type, past_two, past_word, text_type, time_type, type_of}
+use Rattle.sql_print.specs.sql_words.specs.Words.{Word, where_so}
+use Rattle.sql_print.specs.sql_words.specs.Tables.{column_words, mark_words, type_words}
 use Rattle.print_laws.proofs.Keywords.{close_word, comma_word, key_word, not_word, null_word, number_word, open_word, primary_word, timestamp_word, tt_bigint_word, tt_integer_word, varchar2_word}
 use Rattle.print_laws.proofs.Literals.{IsDigits, digits_lexes, digits_whole}
 use Rattle.print_laws.proofs.Names.{IsIdentifier, put_identifier}

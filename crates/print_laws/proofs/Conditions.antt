@@ -1,29 +1,29 @@
 -- Conditions that are put are read back.
 use Rattle.std.proofs.Common.{◌≡◌, ℕ, zero, suc, ◌+◌, ◌≤◌, ◌<◌, max, Bool, true, false, cond, List, [], ◌∷◌, ◌++◌, drop, codes, refl, sym, ap, ◌∙◌, subst, arith, append_assoc, append-nil}
-use Rattle.expressions.specs.declared.condition.Comparator.{Comparator}
-use Rattle.expressions.specs.declared.condition.Comparator.TheVariants as comparators
-use Rattle.sql_query.specs.Trees.{ExpressionTree, ConditionTree, Compared, Missing, Between, Among, Not, All, Any}
-use Rattle.sql_tokens.specs.declared.kind.Kind.{Kind}
-use Rattle.sql_tokens.specs.declared.kind.Kind.TheVariants as k
-use Rattle.sql_tokens.specs.Kinds.{is_kind}
-use Rattle.sql_tokens.specs.Lexing.{Lexeme, lexeme}
-use Rattle.sql_grammar.specs.declared.rule.Rule.TheVariants as rules
-use Rattle.sql_grammar.specs.declared.test.Test.TheVariants.{Only, Compare}
-use Rattle.sql_grammar.specs.Tests.{passes}
-use Rattle.sql_grammar.specs.Grammar.{Grammar, Either, Empty, Named, Part, Reads, token, both, this, that, empty, deeper, level, named}
-use Rattle.sql_grammar.specs.Notation.{choice, optional, the, ◌▸◌}
-use Rattle.sql_grammar.specs.Queries.{cond as cond_rule, conj, exprs, within as within_rule}
-use Rattle.sql_grammar.specs.Sql.{rule}
-use Rattle.sql_subset.specs.Lines.{kinds_in}
-use Rattle.sql_phrases.specs.Reading.{begins, past_one}
-use Rattle.sql_phrases.specs.Expressions.{expression_of, expressions_of}
-use Rattle.sql_phrases.specs.Conditions.{among, at_and, at_or, between, between_low, both as both_of, compared, condition_by, condition_of, conjunction_by, either, negated, predicate_of, test_of, tested, within}
-use Rattle.sql_phrases.proofs.Predicates.{predicate_last, predicate_test}
-use Rattle.sql_phrases.proofs.Shrinking.{conjunction_shrinks, predicate_shrinks}
-use Rattle.sql_words.specs.declared.condition.Strength.{Strength}
-use Rattle.sql_words.specs.declared.condition.Strength.TheVariants.{Loose, Middle, Tight}
-use Rattle.sql_words.specs.Words.{Word, listed}
-use Rattle.sql_words.specs.Trees.{binds_and, binds_or, comparator_word, condition_words, expression_words, membership_words, not_words, range_words}
+use Rattle.sql_print.specs.expressions.specs.declared.condition.Comparator.{Comparator}
+use Rattle.sql_print.specs.expressions.specs.declared.condition.Comparator.TheVariants as comparators
+use Rattle.sql_print.specs.sql_query.specs.Trees.{ExpressionTree, ConditionTree, Compared, Missing, Between, Among, Not, All, Any}
+use Rattle.sql_print.specs.sql_tokens.specs.declared.kind.Kind.{Kind}
+use Rattle.sql_print.specs.sql_tokens.specs.declared.kind.Kind.TheVariants as k
+use Rattle.sql_print.specs.sql_tokens.specs.Kinds.{is_kind}
+use Rattle.sql_print.specs.sql_tokens.specs.Lexing.{Lexeme, lexeme}
+use Rattle.sql_print.specs.sql_grammar.specs.declared.rule.Rule.TheVariants as rules
+use Rattle.sql_print.specs.sql_grammar.specs.declared.test.Test.TheVariants.{Only, Compare}
+use Rattle.sql_print.specs.sql_grammar.specs.Tests.{passes}
+use Rattle.sql_print.specs.sql_grammar.specs.Grammar.{Grammar, Either, Empty, Named, Part, Reads, token, both, this, that, empty, deeper, level, named}
+use Rattle.sql_print.specs.sql_grammar.specs.Notation.{choice, optional, the, ◌▸◌}
+use Rattle.sql_print.specs.sql_grammar.specs.Queries.{cond as cond_rule, conj, exprs, within as within_rule}
+use Rattle.sql_print.specs.sql_grammar.specs.Sql.{rule}
+use Rattle.sql_print.specs.sql_subset.specs.Lines.{kinds_in}
+use Rattle.sql_print.specs.sql_phrases.specs.Reading.{begins, past_one}
+use Rattle.sql_print.specs.sql_phrases.specs.Expressions.{expression_of, expressions_of}
+use Rattle.sql_print.specs.sql_phrases.specs.Conditions.{among, at_and, at_or, between, between_low, both as both_of, compared, condition_by, condition_of, conjunction_by, either, negated, predicate_of, test_of, tested, within}
+use Rattle.sql_print.specs.sql_phrases.proofs.Predicates.{predicate_last, predicate_test}
+use Rattle.sql_print.specs.sql_phrases.proofs.Shrinking.{conjunction_shrinks, predicate_shrinks}
+use Rattle.sql_print.specs.sql_words.specs.declared.condition.Strength.{Strength}
+use Rattle.sql_print.specs.sql_words.specs.declared.condition.Strength.TheVariants.{Loose, Middle, Tight}
+use Rattle.sql_print.specs.sql_words.specs.Words.{Word, listed}
+use Rattle.sql_print.specs.sql_words.specs.Trees.{binds_and, binds_or, comparator_word, condition_words, expression_words, membership_words, not_words, range_words}
 use Rattle.print_laws.proofs.Expressions.{IsSum, NoStart, Stops, expression_never, not_starts_none, open_starts_none, put_expression, put_expressions, stops_word}
 use Rattle.print_laws.proofs.Fine.{fine_more}
 use Rattle.print_laws.proofs.Keywords.{and_word, at_least_word, at_most_word, between_word, close_word, equals_word, greater_word, in_word, is_word, less_word, not_equals_word, not_word, null_word, open_word, or_word}

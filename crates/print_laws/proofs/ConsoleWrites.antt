@@ -1,27 +1,27 @@
 -- Writes of the console are printed and read back.
 use Rattle.std.proofs.Common.{◌≡◌, ℕ, zero, suc, ◌≤◌, Bool, true, false, cond, ◌||◌, List, [], ◌∷◌, ◌++◌, length, drop, codes, Option, Some, None, refl, sym, ap, subst, arith, append_assoc, append-nil}
-use Rattle.sql_query.specs.declared.write.Write.{Write}
-use Rattle.sql_query.specs.declared.write.Write.TheVariants as writes
-use Rattle.sql_tokens.specs.declared.kind.Kind.TheVariants as k
-use Rattle.sql_tokens.specs.Lexing.{Lexeme, lexed, lexeme}
-use Rattle.sql_tokens.specs.Heads.{head_end, head_of}
-use Rattle.sql_grammar.specs.declared.rule.Rule.TheVariants as rules
-use Rattle.sql_grammar.specs.declared.start.Start.{Start}
-use Rattle.sql_grammar.specs.declared.start.Start.TheVariants as starts
-use Rattle.sql_grammar.specs.Grammar.{Grammar, Named, Over, Part, Parts, Reads, both, empty, named, over, that, this, token}
-use Rattle.sql_grammar.specs.Notation.{choice, optional, ◌▸◌}
-use Rattle.sql_grammar.specs.Sql.{rule}
-use Rattle.sql_grammar.specs.Writes.{write as write_rule}
-use Rattle.sql_subset.specs.declared.request.ConsoleRequest.{ConsoleRequest}
-use Rattle.sql_subset.specs.declared.request.ConsoleRequest.TheVariants.{CreateTable, Writes}
-use Rattle.sql_subset.specs.declared.request.Line.TheVariants.{Console}
-use Rattle.sql_subset.specs.Lines.{Checked, Headed, Heard, Means, Says, Spoken, is_silent, is_spoilt, kinds_in, start_of}
-use Rattle.sql_subset.specs.Statements.{console_of, goes_on, writes_of}
-use Rattle.sql_phrases.specs.Reading.{as_list, begins, chained, with_last}
-use Rattle.sql_phrases.specs.Tables.{table_of}
-use Rattle.sql_phrases.specs.Writes.{write_of}
-use Rattle.sql_phrases.proofs.Shrinking.{write_shrinks}
-use Rattle.sql_words.specs.Words.{Word, joined, spaced}
+use Rattle.sql_print.specs.sql_query.specs.declared.write.Write.{Write}
+use Rattle.sql_print.specs.sql_query.specs.declared.write.Write.TheVariants as writes
+use Rattle.sql_print.specs.sql_tokens.specs.declared.kind.Kind.TheVariants as k
+use Rattle.sql_print.specs.sql_tokens.specs.Lexing.{Lexeme, lexed, lexeme}
+use Rattle.sql_print.specs.sql_tokens.specs.Heads.{head_end, head_of}
+use Rattle.sql_print.specs.sql_grammar.specs.declared.rule.Rule.TheVariants as rules
+use Rattle.sql_print.specs.sql_grammar.specs.declared.start.Start.{Start}
+use Rattle.sql_print.specs.sql_grammar.specs.declared.start.Start.TheVariants as starts
+use Rattle.sql_print.specs.sql_grammar.specs.Grammar.{Grammar, Named, Over, Part, Parts, Reads, both, empty, named, over, that, this, token}
+use Rattle.sql_print.specs.sql_grammar.specs.Notation.{choice, optional, ◌▸◌}
+use Rattle.sql_print.specs.sql_grammar.specs.Sql.{rule}
+use Rattle.sql_print.specs.sql_grammar.specs.Writes.{write as write_rule}
+use Rattle.sql_print.specs.sql_subset.specs.declared.request.ConsoleRequest.{ConsoleRequest}
+use Rattle.sql_print.specs.sql_subset.specs.declared.request.ConsoleRequest.TheVariants.{CreateTable, Writes}
+use Rattle.sql_print.specs.sql_subset.specs.declared.request.Line.TheVariants.{Console}
+use Rattle.sql_print.specs.sql_subset.specs.Lines.{Checked, Headed, Heard, Means, Says, Spoken, is_silent, is_spoilt, kinds_in, start_of}
+use Rattle.sql_print.specs.sql_subset.specs.Statements.{console_of, goes_on, writes_of}
+use Rattle.sql_print.specs.sql_phrases.specs.Reading.{as_list, begins, chained, with_last}
+use Rattle.sql_print.specs.sql_phrases.specs.Tables.{table_of}
+use Rattle.sql_print.specs.sql_phrases.specs.Writes.{write_of}
+use Rattle.sql_print.specs.sql_phrases.proofs.Shrinking.{write_shrinks}
+use Rattle.sql_print.specs.sql_words.specs.Words.{Word, joined, spaced}
 use Rattle.sql_print.specs.Printed.{more_write_words, printed_writes}
 use Rattle.sql_print.specs.Queries.{write_words}
 use Rattle.print_laws.proofs.Definitions.{console_line, line_says, requested}

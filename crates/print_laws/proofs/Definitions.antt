@@ -2,30 +2,30 @@
 use Rattle.std.proofs.Common.{◌≡◌, ℕ, Bool, true, false, not, cond, ltb, List, [], ◌∷◌, ◌++◌, length, drop, codes, Option, Some, None, refl, sym, ap, subst, arith, append-nil}
 use Rattle.std.proofs.lemmas.Bool.Decides.{nat_tests}
 use Rattle.std.specs.List.{position_or_len}
-use Rattle.tier_base.specs.Names.{is_word_byte}
-use Rattle.row_types.specs.declared.declaration.TableDeclaration.{TableDeclaration}
-use Rattle.sql_tokens.specs.declared.kind.Kind.{Kind}
-use Rattle.sql_tokens.specs.declared.kind.Kind.TheVariants as k
-use Rattle.sql_tokens.specs.Lexing.{Lexeme, is_blank, lexed}
-use Rattle.sql_tokens.specs.Heads.{head_end, head_of, head_start, place_or_end}
-use Rattle.sql_grammar.specs.declared.start.Start.{Start}
-use Rattle.sql_grammar.specs.declared.start.Start.TheVariants as starts
-use Rattle.sql_grammar.specs.Grammar.{Grammar, Over, Part, Reads, Empty, both, empty, over, that, this, token}
-use Rattle.sql_grammar.specs.Notation.{choice, optional, the, ◌▸◌}
-use Rattle.sql_grammar.specs.Sql.{rule}
-use Rattle.sql_grammar.specs.Tables.{table}
-use Rattle.sql_grammar.specs.Writes.{write}
-use Rattle.sql_subset.specs.declared.request.ConsoleRequest.{ConsoleRequest}
-use Rattle.sql_subset.specs.declared.request.ConsoleRequest.TheVariants.{CreateTable, Writes}
-use Rattle.sql_subset.specs.declared.request.Line.TheVariants.{Console}
-use Rattle.sql_subset.specs.Lines.{Checked, Headed, Heard, Means, Says, Spoken, is_silent, is_spoilt, kinds_in, start_of}
-use Rattle.sql_subset.specs.Statements.{console_of, writes_of}
-use Rattle.sql_phrases.specs.declared.tables.CacheTable.{CacheTable}
-use Rattle.sql_phrases.specs.Reading.{begins}
-use Rattle.sql_phrases.specs.Tables.{table_of}
-use Rattle.sql_words.specs.Words.{Word, spaced}
-use Rattle.sql_words.specs.Tables.{table_words}
-use Rattle.sql_words.specs.NormalTables.{normal_table}
+use Rattle.sql_print.specs.tier_base.specs.Names.{is_word_byte}
+use Rattle.sql_print.specs.row_types.specs.declared.declaration.TableDeclaration.{TableDeclaration}
+use Rattle.sql_print.specs.sql_tokens.specs.declared.kind.Kind.{Kind}
+use Rattle.sql_print.specs.sql_tokens.specs.declared.kind.Kind.TheVariants as k
+use Rattle.sql_print.specs.sql_tokens.specs.Lexing.{Lexeme, is_blank, lexed}
+use Rattle.sql_print.specs.sql_tokens.specs.Heads.{head_end, head_of, head_start, place_or_end}
+use Rattle.sql_print.specs.sql_grammar.specs.declared.start.Start.{Start}
+use Rattle.sql_print.specs.sql_grammar.specs.declared.start.Start.TheVariants as starts
+use Rattle.sql_print.specs.sql_grammar.specs.Grammar.{Grammar, Over, Part, Reads, Empty, both, empty, over, that, this, token}
+use Rattle.sql_print.specs.sql_grammar.specs.Notation.{choice, optional, the, ◌▸◌}
+use Rattle.sql_print.specs.sql_grammar.specs.Sql.{rule}
+use Rattle.sql_print.specs.sql_grammar.specs.Tables.{table}
+use Rattle.sql_print.specs.sql_grammar.specs.Writes.{write}
+use Rattle.sql_print.specs.sql_subset.specs.declared.request.ConsoleRequest.{ConsoleRequest}
+use Rattle.sql_print.specs.sql_subset.specs.declared.request.ConsoleRequest.TheVariants.{CreateTable, Writes}
+use Rattle.sql_print.specs.sql_subset.specs.declared.request.Line.TheVariants.{Console}
+use Rattle.sql_print.specs.sql_subset.specs.Lines.{Checked, Headed, Heard, Means, Says, Spoken, is_silent, is_spoilt, kinds_in, start_of}
+use Rattle.sql_print.specs.sql_subset.specs.Statements.{console_of, writes_of}
+use Rattle.sql_print.specs.sql_phrases.specs.declared.tables.CacheTable.{CacheTable}
+use Rattle.sql_print.specs.sql_phrases.specs.Reading.{begins}
+use Rattle.sql_print.specs.sql_phrases.specs.Tables.{table_of}
+use Rattle.sql_print.specs.sql_words.specs.Words.{Word, spaced}
+use Rattle.sql_print.specs.sql_words.specs.Tables.{table_words}
+use Rattle.sql_print.specs.sql_words.specs.NormalTables.{normal_table}
 use Rattle.sql_print.specs.Printed.{printed_table}
 use Rattle.print_laws.proofs.Fine.{IsFineText, fine_both, fine_none, fine_text, not_spoilt}
 use Rattle.print_laws.proofs.Fits.{Fits, all_fit}

@@ -1,25 +1,25 @@
 -- Expressions that are put are read back.
 use Rattle.std.proofs.Common.{◌≡◌, ℕ, Bool, true, false, cond, ◌||◌, List, ◌∷◌, ◌++◌, codes, refl, sym, ap, ◌∙◌, subst, append_assoc}
-use Rattle.expressions.specs.declared.expression.Arithmetic.{Arithmetic}
-use Rattle.expressions.specs.declared.expression.Arithmetic.TheVariants as arithmetic
-use Rattle.row_types.specs.Printing.{quoted}
-use Rattle.sql_query.specs.declared.literal.Literal.{Literal}
-use Rattle.sql_query.specs.declared.literal.Literal.TheVariants as literals
-use Rattle.sql_query.specs.Trees.{ExpressionTree, Constant, Column, Binary}
-use Rattle.sql_tokens.specs.declared.kind.Kind.{Kind}
-use Rattle.sql_tokens.specs.declared.kind.Kind.TheVariants as k
-use Rattle.sql_tokens.specs.Kinds.{is_kind}
-use Rattle.sql_tokens.specs.Lexing.{Lexeme}
-use Rattle.sql_grammar.specs.declared.rule.Rule.TheVariants as rules
-use Rattle.sql_grammar.specs.declared.test.Test.TheVariants.{Digits, Only, Name, Sign}
-use Rattle.sql_grammar.specs.Tests.{passes}
-use Rattle.sql_grammar.specs.Grammar.{Named, this, that, named}
-use Rattle.sql_grammar.specs.Queries.{expr, exprs, factor, term}
-use Rattle.sql_phrases.specs.Reading.{begins, column_of, first_kind, literal_of}
-use Rattle.sql_phrases.specs.Expressions.{added, as_column, as_constant, at_sign, at_star, expression_of, expressions_of, factor_of, multiplied, term_of}
-use Rattle.sql_phrases.proofs.Shrinking.{expression_shrinks, factor_shrinks, term_shrinks}
-use Rattle.sql_words.specs.Words.{Word, column_name_words, listed, literal_words}
-use Rattle.sql_words.specs.Trees.{expression_words, operation_word}
+use Rattle.sql_print.specs.expressions.specs.declared.expression.Arithmetic.{Arithmetic}
+use Rattle.sql_print.specs.expressions.specs.declared.expression.Arithmetic.TheVariants as arithmetic
+use Rattle.sql_print.specs.row_types.specs.Printing.{quoted}
+use Rattle.sql_print.specs.sql_query.specs.declared.literal.Literal.{Literal}
+use Rattle.sql_print.specs.sql_query.specs.declared.literal.Literal.TheVariants as literals
+use Rattle.sql_print.specs.sql_query.specs.Trees.{ExpressionTree, Constant, Column, Binary}
+use Rattle.sql_print.specs.sql_tokens.specs.declared.kind.Kind.{Kind}
+use Rattle.sql_print.specs.sql_tokens.specs.declared.kind.Kind.TheVariants as k
+use Rattle.sql_print.specs.sql_tokens.specs.Kinds.{is_kind}
+use Rattle.sql_print.specs.sql_tokens.specs.Lexing.{Lexeme}
+use Rattle.sql_print.specs.sql_grammar.specs.declared.rule.Rule.TheVariants as rules
+use Rattle.sql_print.specs.sql_grammar.specs.declared.test.Test.TheVariants.{Digits, Only, Name, Sign}
+use Rattle.sql_print.specs.sql_grammar.specs.Tests.{passes}
+use Rattle.sql_print.specs.sql_grammar.specs.Grammar.{Named, this, that, named}
+use Rattle.sql_print.specs.sql_grammar.specs.Queries.{expr, exprs, factor, term}
+use Rattle.sql_print.specs.sql_phrases.specs.Reading.{begins, column_of, first_kind, literal_of}
+use Rattle.sql_print.specs.sql_phrases.specs.Expressions.{added, as_column, as_constant, at_sign, at_star, expression_of, expressions_of, factor_of, multiplied, term_of}
+use Rattle.sql_print.specs.sql_phrases.proofs.Shrinking.{expression_shrinks, factor_shrinks, term_shrinks}
+use Rattle.sql_print.specs.sql_words.specs.Words.{Word, column_name_words, listed, literal_words}
+use Rattle.sql_print.specs.sql_words.specs.Trees.{expression_words, operation_word}
 use Rattle.print_laws.proofs.Keywords.{comma_word, minus_word, null_word, plus_word, star_word, timestamp_word}
 use Rattle.print_laws.proofs.Lexed.{Lexes, begun_by, lexes_text, tokens}
 use Rattle.print_laws.proofs.Lists.{SomeGood, put_list}

@@ -6,11 +6,11 @@ use Rattle.std.proofs.lemmas.Str.{IsCharBoundary-after_ascii, IsUtf8-append, IsU
 use Rattle.std.proofs.lemmas.Str.Ascii.{IsAscii-nil, IsAscii-cons}
 use Rattle.std.specs.Str.{IsUtf8, IsAscii}
 use Rattle.std.specs.List.{list_all, position_or_len}
-use Rattle.tier_base.specs.Names.{is_word_byte}
-use Rattle.sql_tokens.specs.Heads.{good_length, is_control, place_or_end}
-use Rattle.sql_grammar.proofs.Lists.{and_left, and_right}
-use Rattle.sql_subset.specs.Lines.{is_spoilt}
-use Rattle.sql_words.specs.Words.{Word, spaced}
+use Rattle.sql_print.specs.tier_base.specs.Names.{is_word_byte}
+use Rattle.sql_print.specs.sql_tokens.specs.Heads.{good_length, is_control, place_or_end}
+use Rattle.sql_print.specs.sql_grammar.proofs.Lists.{and_left, and_right}
+use Rattle.sql_print.specs.sql_subset.specs.Lines.{is_spoilt}
+use Rattle.sql_print.specs.sql_words.specs.Words.{Word, spaced}
 
 -- no bad byte stands in the bytes
 pub record IsFineText (bytes : List ℕ) : Type 0 where

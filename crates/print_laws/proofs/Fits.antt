@@ -9,18 +9,18 @@ use Rattle.std.proofs.lemmas.Grind.{flat_map-append}
 use Rattle.std.specs.Str.{IsUtf8}
 use Rattle.std.specs.List.{list_all, flat_map}
 use Rattle.std.specs.Char.{is_ascii_digit}
-use Rattle.tier_base.specs.Names.{begins_with_letter, is_word_byte}
-use Rattle.row_types.specs.Printing.{doubled_quote, quoted}
-use Rattle.sql_tokens.specs.declared.kind.Kind.{Kind}
-use Rattle.sql_tokens.specs.declared.kind.Kind.TheVariants.{AtLeast, AtMost, Bad, CloseParen, Colon, Comma, Decimal, Dot, Equals, GreaterThan, LessThan, Minus, NotEquals, OpenParen, Plus, Semicolon, Star, Text}
-use Rattle.sql_tokens.specs.Kinds.{is_kind}
-use Rattle.sql_tokens.specs.Words.{fraction_kind, keywords, named, number_kind, word_kind}
-use Rattle.sql_tokens.specs.Heads.{is_control}
-use Rattle.sql_tokens.specs.Lexing.{Lexeme, lexeme, Scan, Scanned, Blank, InWord, AtPoint, InFraction, InText, Quoted, InSign, begun, on, is_point_of, is_blank, is_open_sign, mark_kind, pair_kind, lexed, lexed_from, at_end, signed, behind}
-use Rattle.sql_grammar.specs.declared.test.Test.TheVariants.{Digits, Whole}
-use Rattle.sql_grammar.specs.Tests.{passes}
-use Rattle.sql_grammar.proofs.Lists.{and_left, and_right}
-use Rattle.sql_words.specs.Words.{spaced}
+use Rattle.sql_print.specs.tier_base.specs.Names.{begins_with_letter, is_word_byte}
+use Rattle.sql_print.specs.row_types.specs.Printing.{doubled_quote, quoted}
+use Rattle.sql_print.specs.sql_tokens.specs.declared.kind.Kind.{Kind}
+use Rattle.sql_print.specs.sql_tokens.specs.declared.kind.Kind.TheVariants.{AtLeast, AtMost, Bad, CloseParen, Colon, Comma, Decimal, Dot, Equals, GreaterThan, LessThan, Minus, NotEquals, OpenParen, Plus, Semicolon, Star, Text}
+use Rattle.sql_print.specs.sql_tokens.specs.Kinds.{is_kind}
+use Rattle.sql_print.specs.sql_tokens.specs.Words.{fraction_kind, keywords, named, number_kind, word_kind}
+use Rattle.sql_print.specs.sql_tokens.specs.Heads.{is_control}
+use Rattle.sql_print.specs.sql_tokens.specs.Lexing.{Lexeme, lexeme, Scan, Scanned, Blank, InWord, AtPoint, InFraction, InText, Quoted, InSign, begun, on, is_point_of, is_blank, is_open_sign, mark_kind, pair_kind, lexed, lexed_from, at_end, signed, behind}
+use Rattle.sql_print.specs.sql_grammar.specs.declared.test.Test.TheVariants.{Digits, Whole}
+use Rattle.sql_print.specs.sql_grammar.specs.Tests.{passes}
+use Rattle.sql_print.specs.sql_grammar.proofs.Lists.{and_left, and_right}
+use Rattle.sql_print.specs.sql_words.specs.Words.{spaced}
 use Rattle.print_laws.proofs.Fine.{IsFineText, fine_both, fine_text}
 use Rattle.print_laws.proofs.Lexed.{decimal_from, digit_printable}
 use Rattle.print_laws.proofs.WordKinds.{digits_bytes, named_has, number_is, other_kind, whole_digits}

@@ -3,9 +3,9 @@ use Rattle.std.proofs.Common.{◌≡◌, ℕ, zero, suc, ◌+◌, Bool, true, fa
 use Rattle.std.proofs.lemmas.Bool.Decides.{nat_tests}
 use Rattle.std.specs.List.{list_all, position, position_or_len}
 use Rattle.std.specs.Char.{to_ascii_uppercase}
-use Rattle.tier_base.specs.Names.{begins_with_letter, folded, is_among, is_identifier, is_name, is_name_at, is_reserved_word, is_word_byte, reserved, spells}
-use Rattle.sql_grammar.proofs.Lists.{and_left, and_right}
-use Rattle.sql_phrases.specs.Reading.{name_from}
+use Rattle.sql_print.specs.tier_base.specs.Names.{begins_with_letter, folded, is_among, is_identifier, is_name, is_name_at, is_reserved_word, is_word_byte, reserved, spells}
+use Rattle.sql_print.specs.sql_grammar.proofs.Lists.{and_left, and_right}
+use Rattle.sql_print.specs.sql_phrases.specs.Reading.{name_from}
 use Rattle.print_laws.proofs.Names.{IsIdentifier, IsName, dotless}
 
 upper_again : (b : ℕ) → to_ascii_uppercase (to_ascii_uppercase b) ≡ to_ascii_uppercase b

@@ -1,33 +1,33 @@
 -- What is read off the tokens of bytes without a bad one: cache groups.
 use Rattle.std.proofs.Common.{◌≡◌, ◌*◌, Bool, true, false, List, [], ◌∷◌, length, drop, Option, Some, None, refl, ap, ◌∙◌, arith}
-use Rattle.sql_query.specs.Trees.{ConditionTree}
-use Rattle.sql_tokens.specs.declared.kind.Kind.TheVariants as k
-use Rattle.sql_tokens.specs.Lexing.{Lexeme}
-use Rattle.sql_grammar.specs.declared.rule.Rule.TheVariants as rules
-use Rattle.sql_grammar.specs.declared.test.Test.TheVariants.{LifetimeUnit, Manner, Name, Only, Whole, IntervalUnit}
-use Rattle.sql_grammar.specs.Grammar.{Grammar, Empty, Named, Parts, Part, Token}
-use Rattle.sql_grammar.specs.Notation.{choice, optional, repeated, the, ◌▸◌}
-use Rattle.sql_grammar.specs.Groups.{autorefresh, create_group, group_table as table_part, state as state_part, way}
-use Rattle.sql_grammar.specs.Queries.{filtered as filter_part}
-use Rattle.sql_subset.specs.declared.stmt.AgingClause.{AgingClause}
-use Rattle.sql_subset.specs.declared.stmt.AgingRule.{AgingRule}
-use Rattle.sql_subset.specs.declared.stmt.Autorefresh as autorefreshes
-use Rattle.sql_subset.specs.declared.stmt.GroupKind.{GroupKind}
-use Rattle.sql_subset.specs.declared.stmt.GroupKind.TheVariants.{ReadOnly, AsynchronousWritethrough, SynchronousWritethrough, UserManaged}
-use Rattle.sql_subset.specs.declared.stmt.GroupTable.{GroupTable}
-use Rattle.sql_subset.specs.Groups.{aged, aging_of, aging_rule_of, as_aging, attribute_of, claused, cycle_of, default_refresh, filtered, filtered_aged, group_kinded, group_named, group_of, group_table, group_table_of, group_tables_of, kind_of, long_of, milliseconds_of, refresh_of, seconds_of, switched, unwritten, with_interval, with_mode, with_state}
-use Rattle.sql_subset.proofs.Shrinking.{group_table_shrinks}
-use Rattle.sql_phrases.specs.declared.tables.CacheTable.{CacheTable}
-use Rattle.sql_phrases.specs.declared.tables.TableAttribute.{TableAttribute}
-use Rattle.sql_phrases.specs.Reading.{at_comma, begins, first_kind, first_text, name_of, number_of, with_last}
-use Rattle.sql_phrases.specs.Conditions.{as_filter, condition_of, filter_of}
-use Rattle.sql_phrases.specs.Tables.{table_of}
+use Rattle.sql_print.specs.sql_query.specs.Trees.{ConditionTree}
+use Rattle.sql_print.specs.sql_tokens.specs.declared.kind.Kind.TheVariants as k
+use Rattle.sql_print.specs.sql_tokens.specs.Lexing.{Lexeme}
+use Rattle.sql_print.specs.sql_grammar.specs.declared.rule.Rule.TheVariants as rules
+use Rattle.sql_print.specs.sql_grammar.specs.declared.test.Test.TheVariants.{LifetimeUnit, Manner, Name, Only, Whole, IntervalUnit}
+use Rattle.sql_print.specs.sql_grammar.specs.Grammar.{Grammar, Empty, Named, Parts, Part, Token}
+use Rattle.sql_print.specs.sql_grammar.specs.Notation.{choice, optional, repeated, the, ◌▸◌}
+use Rattle.sql_print.specs.sql_grammar.specs.Groups.{autorefresh, create_group, group_table as table_part, state as state_part, way}
+use Rattle.sql_print.specs.sql_grammar.specs.Queries.{filtered as filter_part}
+use Rattle.sql_print.specs.sql_subset.specs.declared.stmt.AgingClause.{AgingClause}
+use Rattle.sql_print.specs.sql_subset.specs.declared.stmt.AgingRule.{AgingRule}
+use Rattle.sql_print.specs.sql_subset.specs.declared.stmt.Autorefresh as autorefreshes
+use Rattle.sql_print.specs.sql_subset.specs.declared.stmt.GroupKind.{GroupKind}
+use Rattle.sql_print.specs.sql_subset.specs.declared.stmt.GroupKind.TheVariants.{ReadOnly, AsynchronousWritethrough, SynchronousWritethrough, UserManaged}
+use Rattle.sql_print.specs.sql_subset.specs.declared.stmt.GroupTable.{GroupTable}
+use Rattle.sql_print.specs.sql_subset.specs.Groups.{aged, aging_of, aging_rule_of, as_aging, attribute_of, claused, cycle_of, default_refresh, filtered, filtered_aged, group_kinded, group_named, group_of, group_table, group_table_of, group_tables_of, kind_of, long_of, milliseconds_of, refresh_of, seconds_of, switched, unwritten, with_interval, with_mode, with_state}
+use Rattle.sql_print.specs.sql_subset.proofs.Shrinking.{group_table_shrinks}
+use Rattle.sql_print.specs.sql_phrases.specs.declared.tables.CacheTable.{CacheTable}
+use Rattle.sql_print.specs.sql_phrases.specs.declared.tables.TableAttribute.{TableAttribute}
+use Rattle.sql_print.specs.sql_phrases.specs.Reading.{at_comma, begins, first_kind, first_text, name_of, number_of, with_last}
+use Rattle.sql_print.specs.sql_phrases.specs.Conditions.{as_filter, condition_of, filter_of}
+use Rattle.sql_print.specs.sql_phrases.specs.Tables.{table_of}
 use Rattle.print_laws.proofs.Aging.{IsRule}
 use Rattle.print_laws.proofs.CachedReading.{cached_table_got}
 use Rattle.print_laws.proofs.GroupTables.{IsAging, IsFilter, IsGroupTable}
 use Rattle.print_laws.proofs.Groups.{IsGroup, IsRefresh, IsWay}
 use Rattle.print_laws.proofs.Lists.{SomeGood}
-use Rattle.print_laws.proofs.Numbers.{IsCapped, capped_is}
+use Rattle.print_laws.proofs.NumberLaws.{IsCapped, capped_is}
 use Rattle.print_laws.proofs.Reading.{Tabled, comma_is, identifier_good, name_got, one_kind, some_more}
 use Rattle.print_laws.proofs.State.{Got, State, at_empty, at_named, at_then, at_token, chain_got, got_if, only_passed, only_that, only_this}
 use Rattle.print_laws.proofs.TreeReading.{condition_got, filter_got, got_as}

@@ -1,26 +1,26 @@
 -- Tables of cache groups that are put are read back.
 use Rattle.std.proofs.Common.{◌≡◌, ◌≤◌, List, [], ◌∷◌, ◌++◌, codes, Option, Some, None, refl, sym, ap, ◌∙◌, append_assoc}
-use Rattle.sql_query.specs.Trees.{ConditionTree}
-use Rattle.sql_tokens.specs.declared.kind.Kind.TheVariants as k
-use Rattle.sql_tokens.specs.Lexing.{Lexeme}
-use Rattle.sql_grammar.specs.declared.rule.Rule.TheVariants as rules
-use Rattle.sql_grammar.specs.Grammar.{Grammar, Named, both, this, that, empty}
-use Rattle.sql_grammar.specs.Notation.{choice, optional, repeated, ◌▸◌}
-use Rattle.sql_grammar.specs.Queries.{filtered as filter_part}
-use Rattle.sql_grammar.specs.Groups.{group_table as table_part}
-use Rattle.sql_subset.specs.declared.stmt.AgingClause.{AgingClause}
-use Rattle.sql_subset.specs.declared.stmt.GroupKind.{GroupKind}
-use Rattle.sql_subset.specs.declared.stmt.GroupTable.{GroupTable}
-use Rattle.sql_subset.specs.Groups.{aged, aged_filtered, aging_of, aging_rule_of, as_aging, attribute_of, claused, filtered, group_table_of, group_tables_of, switched}
-use Rattle.sql_subset.proofs.Shrinking.{group_table_shrinks}
-use Rattle.sql_phrases.specs.declared.tables.CacheTable.{CacheTable}
-use Rattle.sql_phrases.specs.declared.tables.TableAttribute.{TableAttribute}
-use Rattle.sql_phrases.specs.Conditions.{as_filter, condition_of, filter_of}
-use Rattle.sql_phrases.specs.Tables.{table_of}
-use Rattle.sql_words.specs.declared.condition.Strength.TheVariants.{Loose}
-use Rattle.sql_words.specs.Words.{Word, listed}
-use Rattle.sql_words.specs.Trees.{condition_words, filter_words}
-use Rattle.sql_words.specs.Tables.{table_words}
+use Rattle.sql_print.specs.sql_query.specs.Trees.{ConditionTree}
+use Rattle.sql_print.specs.sql_tokens.specs.declared.kind.Kind.TheVariants as k
+use Rattle.sql_print.specs.sql_tokens.specs.Lexing.{Lexeme}
+use Rattle.sql_print.specs.sql_grammar.specs.declared.rule.Rule.TheVariants as rules
+use Rattle.sql_print.specs.sql_grammar.specs.Grammar.{Grammar, Named, both, this, that, empty}
+use Rattle.sql_print.specs.sql_grammar.specs.Notation.{choice, optional, repeated, ◌▸◌}
+use Rattle.sql_print.specs.sql_grammar.specs.Queries.{filtered as filter_part}
+use Rattle.sql_print.specs.sql_grammar.specs.Groups.{group_table as table_part}
+use Rattle.sql_print.specs.sql_subset.specs.declared.stmt.AgingClause.{AgingClause}
+use Rattle.sql_print.specs.sql_subset.specs.declared.stmt.GroupKind.{GroupKind}
+use Rattle.sql_print.specs.sql_subset.specs.declared.stmt.GroupTable.{GroupTable}
+use Rattle.sql_print.specs.sql_subset.specs.Groups.{aged, aged_filtered, aging_of, aging_rule_of, as_aging, attribute_of, claused, filtered, group_table_of, group_tables_of, switched}
+use Rattle.sql_print.specs.sql_subset.proofs.Shrinking.{group_table_shrinks}
+use Rattle.sql_print.specs.sql_phrases.specs.declared.tables.CacheTable.{CacheTable}
+use Rattle.sql_print.specs.sql_phrases.specs.declared.tables.TableAttribute.{TableAttribute}
+use Rattle.sql_print.specs.sql_phrases.specs.Conditions.{as_filter, condition_of, filter_of}
+use Rattle.sql_print.specs.sql_phrases.specs.Tables.{table_of}
+use Rattle.sql_print.specs.sql_words.specs.declared.condition.Strength.TheVariants.{Loose}
+use Rattle.sql_print.specs.sql_words.specs.Words.{Word, listed}
+use Rattle.sql_print.specs.sql_words.specs.Trees.{condition_words, filter_words}
+use Rattle.sql_print.specs.sql_words.specs.Tables.{table_words}
 use Rattle.sql_print.specs.Groups.{aging_words, group_table_words, rule_words, switch_word}
 use Rattle.print_laws.proofs.Aging.{IsRule, put_aging}
 use Rattle.print_laws.proofs.Conditions.{Closes, IsCondition, levels, put_condition}

@@ -1,29 +1,29 @@
 -- Cache groups that are put are read back.
 use Rattle.std.proofs.Common.{◌≡◌, ℕ, Bool, true, false, List, [], ◌∷◌, ◌++◌, drop, codes, Option, Some, None, refl, sym, ap, ◌∙◌, subst, append_assoc}
 use Rattle.std.specs.Fmt.{decimal}
-use Rattle.sql_tokens.specs.declared.kind.Kind.{Kind}
-use Rattle.sql_tokens.specs.declared.kind.Kind.TheVariants as k
-use Rattle.sql_tokens.specs.Kinds.{is_kind}
-use Rattle.sql_tokens.specs.Words.{word_kind}
-use Rattle.sql_tokens.specs.Lexing.{Lexeme, lexeme}
-use Rattle.sql_grammar.specs.declared.rule.Rule.TheVariants as rules
-use Rattle.sql_grammar.specs.declared.test.Test.TheVariants.{IntervalUnit, Manner, Whole}
-use Rattle.sql_grammar.specs.Tests.{passes}
-use Rattle.sql_grammar.specs.Grammar.{Grammar, Parts, Part, Reads, Named, Token, token, both, this, that, empty, named}
-use Rattle.sql_grammar.specs.Notation.{optional, repeated, the, ◌▸◌}
-use Rattle.sql_grammar.specs.Sql.{rule}
-use Rattle.sql_grammar.specs.Groups.{autorefresh, create_group, group_table, state as state_part, way}
-use Rattle.sql_subset.specs.declared.stmt.Autorefresh as autorefreshes
-use Rattle.sql_subset.specs.declared.stmt.CreateGroup as groups
-use Rattle.sql_subset.specs.declared.stmt.GroupKind.{GroupKind}
-use Rattle.sql_subset.specs.declared.stmt.GroupKind.TheVariants.{ReadOnly, AsynchronousWritethrough, SynchronousWritethrough, UserManaged}
-use Rattle.sql_subset.specs.declared.stmt.RefreshMode.{RefreshMode}
-use Rattle.sql_subset.specs.declared.stmt.RefreshMode.TheVariants as modes
-use Rattle.sql_subset.specs.declared.stmt.RefreshState.{RefreshState}
-use Rattle.sql_subset.specs.declared.stmt.RefreshState.TheVariants as states
-use Rattle.sql_subset.specs.Groups.{default_refresh, group_kinded, group_named, group_of, group_refreshed, group_tables_of, grouped, interval_of, kind_of, mode_of, refresh_of, state_of, unwritten, with_interval, with_mode, with_state, written}
-use Rattle.sql_phrases.specs.Reading.{begins, first_kind, first_text, name_of}
-use Rattle.sql_words.specs.Words.{Word, listed, name_words, where_so}
+use Rattle.sql_print.specs.sql_tokens.specs.declared.kind.Kind.{Kind}
+use Rattle.sql_print.specs.sql_tokens.specs.declared.kind.Kind.TheVariants as k
+use Rattle.sql_print.specs.sql_tokens.specs.Kinds.{is_kind}
+use Rattle.sql_print.specs.sql_tokens.specs.Words.{word_kind}
+use Rattle.sql_print.specs.sql_tokens.specs.Lexing.{Lexeme, lexeme}
+use Rattle.sql_print.specs.sql_grammar.specs.declared.rule.Rule.TheVariants as rules
+use Rattle.sql_print.specs.sql_grammar.specs.declared.test.Test.TheVariants.{IntervalUnit, Manner, Whole}
+use Rattle.sql_print.specs.sql_grammar.specs.Tests.{passes}
+use Rattle.sql_print.specs.sql_grammar.specs.Grammar.{Grammar, Parts, Part, Reads, Named, Token, token, both, this, that, empty, named}
+use Rattle.sql_print.specs.sql_grammar.specs.Notation.{optional, repeated, the, ◌▸◌}
+use Rattle.sql_print.specs.sql_grammar.specs.Sql.{rule}
+use Rattle.sql_print.specs.sql_grammar.specs.Groups.{autorefresh, create_group, group_table, state as state_part, way}
+use Rattle.sql_print.specs.sql_subset.specs.declared.stmt.Autorefresh as autorefreshes
+use Rattle.sql_print.specs.sql_subset.specs.declared.stmt.CreateGroup as groups
+use Rattle.sql_print.specs.sql_subset.specs.declared.stmt.GroupKind.{GroupKind}
+use Rattle.sql_print.specs.sql_subset.specs.declared.stmt.GroupKind.TheVariants.{ReadOnly, AsynchronousWritethrough, SynchronousWritethrough, UserManaged}
+use Rattle.sql_print.specs.sql_subset.specs.declared.stmt.RefreshMode.{RefreshMode}
+use Rattle.sql_print.specs.sql_subset.specs.declared.stmt.RefreshMode.TheVariants as modes
+use Rattle.sql_print.specs.sql_subset.specs.declared.stmt.RefreshState.{RefreshState}
+use Rattle.sql_print.specs.sql_subset.specs.declared.stmt.RefreshState.TheVariants as states
+use Rattle.sql_print.specs.sql_subset.specs.Groups.{default_refresh, group_kinded, group_named, group_of, group_refreshed, group_tables_of, grouped, interval_of, kind_of, mode_of, refresh_of, state_of, unwritten, with_interval, with_mode, with_state, written}
+use Rattle.sql_print.specs.sql_phrases.specs.Reading.{begins, first_kind, first_text, name_of}
+use Rattle.sql_print.specs.sql_words.specs.Words.{Word, listed, name_words, where_so}
 use Rattle.sql_print.specs.Groups.{group_table_words, group_words, kind_words, mode_word, refresh_words, state_word}
 use Rattle.print_laws.proofs.GroupTables.{Follows, IsGroupTable, put_group_tables}
 use Rattle.print_laws.proofs.Keywords.{asynchronous_word, autorefresh_word, cache_word, dynamic_word, from_word, full_word, group_word, incremental_word, interval_word, milliseconds_word, mode_word as mode_lexes, off_word, on_word, paused_word, readonly_word, state_word as state_lexes, synchronous_word, usermanaged_word, writethrough_word}
@@ -31,7 +31,7 @@ use Rattle.print_laws.proofs.Lexed.{Lexes, tokens}
 use Rattle.print_laws.proofs.Lists.{SomeGood}
 use Rattle.print_laws.proofs.Literals.{digits_lexes, digits_whole}
 use Rattle.print_laws.proofs.Names.{IsName, put_name}
-use Rattle.print_laws.proofs.Numbers.{IsCapped, decimal_digits, number_once}
+use Rattle.print_laws.proofs.NumberLaws.{IsCapped, decimal_digits, number_once}
 use Rattle.print_laws.proofs.Put.{Never, Put, never_word, parted, put_as, put_both, put_last, put_map, put_none, put_word, put_words}
 
 -- the clause that a group of this kind may have

@@ -2,31 +2,31 @@
 use Rattle.std.proofs.Common.{◌≡◌, Bool, true, false, cond, List, [], ◌∷◌, ◌++◌, drop, codes, refl, sym, ap, subst, append_assoc, append-nil, arith}
 use Rattle.std.proofs.lemmas.Bool.Decides.{nat_tests}
 use Rattle.std.specs.List.{list_all}
-use Rattle.sql_query.specs.declared.query.Aggregate.{Aggregate}
-use Rattle.sql_query.specs.declared.query.Aggregate.TheVariants as aggregates
-use Rattle.sql_query.specs.declared.query.SelectItem.{SelectItem}
-use Rattle.sql_query.specs.declared.query.SelectItem.TheVariants as items
-use Rattle.sql_query.specs.declared.query.SelectList.{SelectList}
-use Rattle.sql_query.specs.declared.query.SelectList.TheVariants as lists
-use Rattle.sql_query.specs.Trees.{ExpressionTree}
-use Rattle.sql_tokens.specs.declared.kind.Kind.{Kind}
-use Rattle.sql_tokens.specs.declared.kind.Kind.TheVariants as k
-use Rattle.sql_tokens.specs.Kinds.{is_kind}
-use Rattle.sql_tokens.specs.Lexing.{Lexeme, lexeme}
-use Rattle.sql_grammar.specs.declared.rule.Rule.{Rule}
-use Rattle.sql_grammar.specs.declared.rule.Rule.TheVariants as rules
-use Rattle.sql_grammar.specs.declared.test.Test.TheVariants.{Fold}
-use Rattle.sql_grammar.specs.Tests.{passes}
-use Rattle.sql_grammar.specs.Grammar.{Grammar, Either, Empty, Named, Parts, Part, Reads, Token, token, both, this, that, empty, named}
-use Rattle.sql_grammar.specs.Notation.{choice, the, ◌▸◌}
-use Rattle.sql_grammar.specs.Queries.{counted as counted_part, folded as folded_part, select}
-use Rattle.sql_grammar.specs.Sql.{rule}
-use Rattle.sql_phrases.specs.Reading.{as_list, at_comma, begins, first_kind, with_last}
-use Rattle.sql_phrases.specs.Expressions.{expression_of}
-use Rattle.sql_phrases.specs.Queries.{as_item, as_select_list, count_of, counted, folded, is_aggregate, is_expression, item_of, items_of, list_of, selected_of}
-use Rattle.sql_phrases.proofs.Shrinking.{item_shrinks}
-use Rattle.sql_words.specs.Words.{Word, listed, more}
-use Rattle.sql_words.specs.Trees.{expression_words}
+use Rattle.sql_print.specs.sql_query.specs.declared.query.Aggregate.{Aggregate}
+use Rattle.sql_print.specs.sql_query.specs.declared.query.Aggregate.TheVariants as aggregates
+use Rattle.sql_print.specs.sql_query.specs.declared.query.SelectItem.{SelectItem}
+use Rattle.sql_print.specs.sql_query.specs.declared.query.SelectItem.TheVariants as items
+use Rattle.sql_print.specs.sql_query.specs.declared.query.SelectList.{SelectList}
+use Rattle.sql_print.specs.sql_query.specs.declared.query.SelectList.TheVariants as lists
+use Rattle.sql_print.specs.sql_query.specs.Trees.{ExpressionTree}
+use Rattle.sql_print.specs.sql_tokens.specs.declared.kind.Kind.{Kind}
+use Rattle.sql_print.specs.sql_tokens.specs.declared.kind.Kind.TheVariants as k
+use Rattle.sql_print.specs.sql_tokens.specs.Kinds.{is_kind}
+use Rattle.sql_print.specs.sql_tokens.specs.Lexing.{Lexeme, lexeme}
+use Rattle.sql_print.specs.sql_grammar.specs.declared.rule.Rule.{Rule}
+use Rattle.sql_print.specs.sql_grammar.specs.declared.rule.Rule.TheVariants as rules
+use Rattle.sql_print.specs.sql_grammar.specs.declared.test.Test.TheVariants.{Fold}
+use Rattle.sql_print.specs.sql_grammar.specs.Tests.{passes}
+use Rattle.sql_print.specs.sql_grammar.specs.Grammar.{Grammar, Either, Empty, Named, Parts, Part, Reads, Token, token, both, this, that, empty, named}
+use Rattle.sql_print.specs.sql_grammar.specs.Notation.{choice, the, ◌▸◌}
+use Rattle.sql_print.specs.sql_grammar.specs.Queries.{counted as counted_part, folded as folded_part, select}
+use Rattle.sql_print.specs.sql_grammar.specs.Sql.{rule}
+use Rattle.sql_print.specs.sql_phrases.specs.Reading.{as_list, at_comma, begins, first_kind, with_last}
+use Rattle.sql_print.specs.sql_phrases.specs.Expressions.{expression_of}
+use Rattle.sql_print.specs.sql_phrases.specs.Queries.{as_item, as_select_list, count_of, counted, folded, is_aggregate, is_expression, item_of, items_of, list_of, selected_of}
+use Rattle.sql_print.specs.sql_phrases.proofs.Shrinking.{item_shrinks}
+use Rattle.sql_print.specs.sql_words.specs.Words.{Word, listed, more}
+use Rattle.sql_print.specs.sql_words.specs.Trees.{expression_words}
 use Rattle.sql_print.specs.Queries.{aggregate_words, item_words}
 use Rattle.print_laws.proofs.Expressions.{IsSum, NoStart, Stops, expression_never, put_expression, stops_word}
 use Rattle.print_laws.proofs.Keywords.{close_word, comma_word, count_word, max_word, min_word, open_word, star_word, sum_word}

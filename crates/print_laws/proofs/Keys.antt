@@ -1,20 +1,20 @@
 -- Keys that are put are read back.
 use Rattle.std.proofs.Common.{◌≡◌, ℕ, Bool, true, false, cond, List, ◌∷◌, ◌++◌, drop, codes, refl, sym, ap}
-use Rattle.row_types.specs.declared.declaration.ForeignKeyDeclaration.{ForeignKeyDeclaration}
-use Rattle.sql_tokens.specs.declared.kind.Kind.TheVariants as k
-use Rattle.sql_tokens.specs.Lexing.{Lexeme}
-use Rattle.sql_grammar.specs.declared.rule.Rule.TheVariants as rules
-use Rattle.sql_grammar.specs.declared.test.Test.TheVariants.{Name}
-use Rattle.sql_grammar.specs.Grammar.{Grammar, Named, Token, token, both, this, that, empty, named}
-use Rattle.sql_grammar.specs.Notation.{optional, repeated, the, ◌▸◌}
-use Rattle.sql_grammar.specs.Tables.{foreign_rest, key_rest}
-use Rattle.sql_phrases.specs.declared.tables.Element.{Element}
-use Rattle.sql_phrases.specs.declared.tables.Element.TheVariants as elements
-use Rattle.sql_phrases.specs.Reading.{begins, identifier_of, identifiers_of, name_of}
-use Rattle.sql_phrases.specs.Tables.{as_foreign_key, as_key, element_of, foreign_columned, foreign_key_of, foreign_named, foreign_referred}
-use Rattle.sql_phrases.proofs.Shrinking.{identifier_shrinks}
-use Rattle.sql_words.specs.Words.{Word, identifier_words, listed, name_words}
-use Rattle.sql_words.specs.Tables.{cascade_words}
+use Rattle.sql_print.specs.row_types.specs.declared.declaration.ForeignKeyDeclaration.{ForeignKeyDeclaration}
+use Rattle.sql_print.specs.sql_tokens.specs.declared.kind.Kind.TheVariants as k
+use Rattle.sql_print.specs.sql_tokens.specs.Lexing.{Lexeme}
+use Rattle.sql_print.specs.sql_grammar.specs.declared.rule.Rule.TheVariants as rules
+use Rattle.sql_print.specs.sql_grammar.specs.declared.test.Test.TheVariants.{Name}
+use Rattle.sql_print.specs.sql_grammar.specs.Grammar.{Grammar, Named, Token, token, both, this, that, empty, named}
+use Rattle.sql_print.specs.sql_grammar.specs.Notation.{optional, repeated, the, ◌▸◌}
+use Rattle.sql_print.specs.sql_grammar.specs.Tables.{foreign_rest, key_rest}
+use Rattle.sql_print.specs.sql_phrases.specs.declared.tables.Element.{Element}
+use Rattle.sql_print.specs.sql_phrases.specs.declared.tables.Element.TheVariants as elements
+use Rattle.sql_print.specs.sql_phrases.specs.Reading.{begins, identifier_of, identifiers_of, name_of}
+use Rattle.sql_print.specs.sql_phrases.specs.Tables.{as_foreign_key, as_key, element_of, foreign_columned, foreign_key_of, foreign_named, foreign_referred}
+use Rattle.sql_print.specs.sql_phrases.proofs.Shrinking.{identifier_shrinks}
+use Rattle.sql_print.specs.sql_words.specs.Words.{Word, identifier_words, listed, name_words}
+use Rattle.sql_print.specs.sql_words.specs.Tables.{cascade_words}
 use Rattle.print_laws.proofs.Keywords.{cascade_word, close_word, delete_word, foreign_word, key_word, on_word, open_word, primary_word, references_word}
 use Rattle.print_laws.proofs.Lexed.{tokens}
 use Rattle.print_laws.proofs.Lists.{SomeGood, listed_by, put_list}

@@ -1,8 +1,8 @@
 -- The words that are written out, and their tokens.
 use Rattle.std.proofs.Common.{◌≡◌, ℕ, suc, List, [], ◌∷◌, codes, refl}
-use Rattle.sql_tokens.specs.declared.kind.Kind.TheVariants as k
-use Rattle.sql_tokens.specs.Lexing.{lexeme, InSign, Blank, lexed_from}
-use Rattle.sql_words.specs.Words.{Word, spaced}
+use Rattle.sql_print.specs.sql_tokens.specs.declared.kind.Kind.TheVariants as k
+use Rattle.sql_print.specs.sql_tokens.specs.Lexing.{lexeme, InSign, Blank, lexed_from}
+use Rattle.sql_print.specs.sql_words.specs.Words.{Word, spaced}
 use Rattle.print_laws.proofs.Fine.{fine_text}
 use Rattle.print_laws.proofs.Lexed.{Lexes, keyword}
 

@@ -3,15 +3,15 @@ use Rattle.std.proofs.Common.{◌≡◌, ℕ, suc, ◌<◌, Bool, true, false, c
 use Rattle.std.proofs.lemmas.Bool.Decides.{nat_tests}
 use Rattle.std.specs.List.{list_all, flat_map}
 use Rattle.std.specs.Char.{is_ascii_digit}
-use Rattle.tier_base.specs.Names.{is_word_byte}
-use Rattle.row_types.specs.Printing.{doubled_quote, quoted}
-use Rattle.sql_tokens.specs.declared.kind.Kind.{Kind}
-use Rattle.sql_tokens.specs.declared.kind.Kind.TheVariants.{Text}
-use Rattle.sql_tokens.specs.Words.{word_kind, fraction_kind}
-use Rattle.sql_tokens.specs.Lexing.{Lexeme, lexeme, Scan, Scanned, Blank, InWord, AtPoint, InFraction, InText, Quoted, is_blank, on, lexed_from}
-use Rattle.sql_tokens.proofs.Bytes.{begun-word, on-word, on-text, on-point_digit, on-fraction}
-use Rattle.sql_grammar.proofs.Lists.{and_left, and_right}
-use Rattle.sql_words.specs.Words.{Word, spaced}
+use Rattle.sql_print.specs.tier_base.specs.Names.{is_word_byte}
+use Rattle.sql_print.specs.row_types.specs.Printing.{doubled_quote, quoted}
+use Rattle.sql_print.specs.sql_tokens.specs.declared.kind.Kind.{Kind}
+use Rattle.sql_print.specs.sql_tokens.specs.declared.kind.Kind.TheVariants.{Text}
+use Rattle.sql_print.specs.sql_tokens.specs.Words.{word_kind, fraction_kind}
+use Rattle.sql_print.specs.sql_tokens.specs.Lexing.{Lexeme, lexeme, Scan, Scanned, Blank, InWord, AtPoint, InFraction, InText, Quoted, is_blank, on, lexed_from}
+use Rattle.sql_print.specs.sql_tokens.proofs.Bytes.{begun-word, on-word, on-text, on-point_digit, on-fraction}
+use Rattle.sql_print.specs.sql_grammar.proofs.Lists.{and_left, and_right}
+use Rattle.sql_print.specs.sql_words.specs.Words.{Word, spaced}
 use Rattle.print_laws.proofs.Fine.{IsFineText, fine_word}
 use Rattle.print_laws.proofs.WordKinds.{digits_bytes}
 

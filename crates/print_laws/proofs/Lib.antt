@@ -20,7 +20,7 @@ pub mod GroupReading
 pub mod NormalTables
 pub mod Expressions
 pub mod Conditions
-pub mod Numbers
+pub mod NumberLaws
 pub mod Aging
 pub mod GroupTables
 pub mod Groups

@@ -1,12 +1,12 @@
 -- Lists with commas between that are put are read back.
 use Rattle.std.proofs.Common.{ℕ, ◌≤◌, List, [], ◌∷◌, ◌++◌, length, codes, refl, sym, subst, append_assoc, append-nil}
-use Rattle.sql_tokens.specs.declared.kind.Kind.TheVariants.{Comma}
-use Rattle.sql_tokens.specs.Lexing.{Lexeme}
-use Rattle.sql_grammar.specs.declared.test.Test.TheVariants.{Only}
-use Rattle.sql_grammar.specs.Grammar.{Grammar}
-use Rattle.sql_grammar.specs.Notation.{repeated, ◌▸◌}
-use Rattle.sql_phrases.specs.Reading.{as_list, at_comma, chained, with_last}
-use Rattle.sql_words.specs.Words.{Word, listed, more}
+use Rattle.sql_print.specs.sql_tokens.specs.declared.kind.Kind.TheVariants.{Comma}
+use Rattle.sql_print.specs.sql_tokens.specs.Lexing.{Lexeme}
+use Rattle.sql_print.specs.sql_grammar.specs.declared.test.Test.TheVariants.{Only}
+use Rattle.sql_print.specs.sql_grammar.specs.Grammar.{Grammar}
+use Rattle.sql_print.specs.sql_grammar.specs.Notation.{repeated, ◌▸◌}
+use Rattle.sql_print.specs.sql_phrases.specs.Reading.{as_list, at_comma, chained, with_last}
+use Rattle.sql_print.specs.sql_words.specs.Words.{Word, listed, more}
 use Rattle.print_laws.proofs.Keywords.{comma_word}
 use Rattle.print_laws.proofs.Put.{Leads, Never, Put, leads_end, leads_first, leads_more, put_words}
 

@@ -3,23 +3,23 @@ use Rattle.std.proofs.Common.{◌≡◌, ℕ, suc, ◌<◌, Bool, true, false, c
 use Rattle.std.proofs.lemmas.Bool.Decides.{nat_tests}
 use Rattle.std.specs.List.{list_all, flat_map}
 use Rattle.std.specs.Char.{is_ascii_digit}
-use Rattle.row_types.specs.Printing.{quoted, doubled_quote}
-use Rattle.sql_tokens.specs.declared.kind.Kind.{Kind}
-use Rattle.sql_tokens.specs.declared.kind.Kind.TheVariants.{Minus, Null, Text, Timestamp}
-use Rattle.sql_tokens.specs.Words.{word_kind}
-use Rattle.sql_tokens.specs.Lexing.{Lexeme, lexeme}
-use Rattle.sql_query.specs.declared.literal.Literal.{Literal}
-use Rattle.sql_query.specs.declared.literal.Literal.TheVariants as literals
-use Rattle.sql_query.specs.declared.literal.NumberLiteral.{NumberLiteral}
-use Rattle.sql_grammar.specs.declared.rule.Rule.TheVariants as rules
-use Rattle.sql_grammar.specs.declared.test.Test.TheVariants.{Digits, Name, Whole}
-use Rattle.sql_grammar.specs.Tests.{passes}
-use Rattle.sql_grammar.specs.Grammar.{Named, Part, Reads, token, both, this, that, empty, named}
-use Rattle.sql_grammar.specs.Notation.{the}
-use Rattle.sql_grammar.specs.Sql.{rule}
-use Rattle.sql_subset.specs.Lines.{kinds_in}
-use Rattle.sql_phrases.specs.Reading.{first_kind, first_text, halved, literal_of, unquoted}
-use Rattle.sql_words.specs.Words.{Word, literal_words}
+use Rattle.sql_print.specs.row_types.specs.Printing.{quoted, doubled_quote}
+use Rattle.sql_print.specs.sql_tokens.specs.declared.kind.Kind.{Kind}
+use Rattle.sql_print.specs.sql_tokens.specs.declared.kind.Kind.TheVariants.{Minus, Null, Text, Timestamp}
+use Rattle.sql_print.specs.sql_tokens.specs.Words.{word_kind}
+use Rattle.sql_print.specs.sql_tokens.specs.Lexing.{Lexeme, lexeme}
+use Rattle.sql_print.specs.sql_query.specs.declared.literal.Literal.{Literal}
+use Rattle.sql_print.specs.sql_query.specs.declared.literal.Literal.TheVariants as literals
+use Rattle.sql_print.specs.sql_query.specs.declared.literal.NumberLiteral.{NumberLiteral}
+use Rattle.sql_print.specs.sql_grammar.specs.declared.rule.Rule.TheVariants as rules
+use Rattle.sql_print.specs.sql_grammar.specs.declared.test.Test.TheVariants.{Digits, Name, Whole}
+use Rattle.sql_print.specs.sql_grammar.specs.Tests.{passes}
+use Rattle.sql_print.specs.sql_grammar.specs.Grammar.{Named, Part, Reads, token, both, this, that, empty, named}
+use Rattle.sql_print.specs.sql_grammar.specs.Notation.{the}
+use Rattle.sql_print.specs.sql_grammar.specs.Sql.{rule}
+use Rattle.sql_print.specs.sql_subset.specs.Lines.{kinds_in}
+use Rattle.sql_print.specs.sql_phrases.specs.Reading.{first_kind, first_text, halved, literal_of, unquoted}
+use Rattle.sql_print.specs.sql_words.specs.Words.{Word, literal_words}
 use Rattle.print_laws.proofs.Fine.{IsFineText, fine_both, fine_more, fine_text}
 use Rattle.print_laws.proofs.Keywords.{null_word, timestamp_word}
 use Rattle.print_laws.proofs.Lexed.{Lexes, begun_by, lexes_text, lexes_word, tokens}

@@ -1,24 +1,24 @@
 -- What is read off the tokens of bytes without a bad one: what is done to cache groups, indexes and calls.
 use Rattle.std.proofs.Common.{ℕ, ◌+◌, ◌*◌, ◌-◌, Bool, true, false, cond, List, [], ◌∷◌, ◌++◌, length, drop, refl, arith}
-use Rattle.sql_query.specs.declared.literal.Literal.{Literal}
-use Rattle.sql_tokens.specs.declared.kind.Kind.TheVariants as k
-use Rattle.sql_tokens.specs.Lexing.{Lexeme}
-use Rattle.sql_grammar.specs.declared.rule.Rule.TheVariants as rules
-use Rattle.sql_grammar.specs.declared.test.Test.TheVariants.{Only, Whole}
-use Rattle.sql_grammar.specs.Grammar.{Named, Parts, Part, Token}
-use Rattle.sql_grammar.specs.Notation.{optional, the, ◌▸◌}
-use Rattle.sql_grammar.specs.Loading.{loaded as loaded_part, unloaded as unloaded_part}
-use Rattle.sql_grammar.specs.Tables.{index as index_part}
-use Rattle.sql_subset.specs.Statements.{commit_every_of, id_of, index_of, load_of, of_group_of, parallel_of, which_of}
-use Rattle.sql_phrases.specs.Reading.{at_comma, begins, capped, first_text, literal_of, literals_of, name_from, name_of, number_of, number_with, with_last}
-use Rattle.sql_phrases.specs.Conditions.{filter_of}
-use Rattle.sql_phrases.proofs.Shrinking.{literal_shrinks}
+use Rattle.sql_print.specs.sql_query.specs.declared.literal.Literal.{Literal}
+use Rattle.sql_print.specs.sql_tokens.specs.declared.kind.Kind.TheVariants as k
+use Rattle.sql_print.specs.sql_tokens.specs.Lexing.{Lexeme}
+use Rattle.sql_print.specs.sql_grammar.specs.declared.rule.Rule.TheVariants as rules
+use Rattle.sql_print.specs.sql_grammar.specs.declared.test.Test.TheVariants.{Only, Whole}
+use Rattle.sql_print.specs.sql_grammar.specs.Grammar.{Named, Parts, Part, Token}
+use Rattle.sql_print.specs.sql_grammar.specs.Notation.{optional, the, ◌▸◌}
+use Rattle.sql_print.specs.sql_grammar.specs.Loading.{loaded as loaded_part, unloaded as unloaded_part}
+use Rattle.sql_print.specs.sql_grammar.specs.Tables.{index as index_part}
+use Rattle.sql_print.specs.sql_subset.specs.Statements.{commit_every_of, id_of, index_of, load_of, of_group_of, parallel_of, which_of}
+use Rattle.sql_print.specs.sql_phrases.specs.Reading.{at_comma, begins, capped, first_text, literal_of, literals_of, name_from, name_of, number_of, number_with, with_last}
+use Rattle.sql_print.specs.sql_phrases.specs.Conditions.{filter_of}
+use Rattle.sql_print.specs.sql_phrases.proofs.Shrinking.{literal_shrinks}
 use Rattle.print_laws.proofs.Folded.{name_read}
 use Rattle.print_laws.proofs.Lists.{SomeGood}
 use Rattle.print_laws.proofs.Literals.{IsLiteral}
 use Rattle.print_laws.proofs.Loading.{IsCount, IsId, IsIndex, IsLoad, IsOfGroup, IsWhich, id_part, literals_part}
 use Rattle.print_laws.proofs.Names.{IsName}
-use Rattle.print_laws.proofs.Numbers.{IsCapped, capped_is}
+use Rattle.print_laws.proofs.NumberLaws.{IsCapped, capped_is}
 use Rattle.print_laws.proofs.Reading.{comma_is, identifier_good, name_got, names_got, some_more}
 use Rattle.print_laws.proofs.State.{Got, State, at_empty, at_named, at_then, at_token, chain_got, got_if, only_that, only_this}
 use Rattle.print_laws.proofs.TreeReading.{filter_got, literal_got}

@@ -1,34 +1,34 @@
 -- What is put of statements on cache groups, of indexes and of calls is read back.
 use Rattle.std.proofs.Common.{◌≡◌, ℕ, suc, false, ◌||◌, List, [], ◌∷◌, ◌++◌, drop, codes, Option, Some, None, refl, sym, ap, subst, append_assoc, append-nil}
 use Rattle.std.specs.Fmt.{decimal}
-use Rattle.sql_query.specs.declared.literal.Literal.{Literal}
-use Rattle.sql_query.specs.Trees.{ConditionTree}
-use Rattle.sql_tokens.specs.declared.kind.Kind.{Kind}
-use Rattle.sql_tokens.specs.declared.kind.Kind.TheVariants as k
-use Rattle.sql_tokens.specs.Kinds.{is_kind}
-use Rattle.sql_tokens.specs.Words.{word_kind}
-use Rattle.sql_tokens.specs.Lexing.{Lexeme}
-use Rattle.sql_grammar.specs.declared.rule.Rule.TheVariants as rules
-use Rattle.sql_grammar.specs.declared.test.Test.TheVariants.{Name, Whole}
-use Rattle.sql_grammar.specs.Grammar.{Grammar, Named, Part, Token, token, both, this, that, empty, named, again, enough}
-use Rattle.sql_grammar.specs.Notation.{optional, repeated, the, ◌▸◌}
-use Rattle.sql_grammar.specs.Loading.{altered as altered_part, loaded as loaded_part, unloaded as unloaded_part}
-use Rattle.sql_grammar.specs.Groups.{state as state_part}
-use Rattle.sql_grammar.specs.Queries.{filtered as filter_part}
-use Rattle.sql_grammar.specs.Tables.{index as index_part}
-use Rattle.sql_subset.specs.declared.stmt.Alter.{Alter}
-use Rattle.sql_subset.specs.declared.stmt.CreateIndex.{CreateIndex}
-use Rattle.sql_subset.specs.declared.stmt.Load as loads
-use Rattle.sql_subset.specs.declared.stmt.OfGroup.{OfGroup}
-use Rattle.sql_subset.specs.declared.stmt.Which.{Which}
-use Rattle.sql_subset.specs.declared.stmt.RefreshState.{RefreshState}
-use Rattle.sql_subset.specs.Groups.{state_of}
-use Rattle.sql_subset.specs.Statements.{chosen, chosen_where, commit_every_of, counted, id_of, load_chosen, load_counted, load_named, load_of, loaded, parallel_of, which_of}
-use Rattle.sql_phrases.specs.Reading.{first_kind, first_text, identifier_of, identifiers_of, literal_of, literals_of, name_of, number_of}
-use Rattle.sql_phrases.specs.Conditions.{filter_of}
-use Rattle.sql_phrases.proofs.Shrinking.{literal_shrinks}
-use Rattle.sql_words.specs.Words.{Word, identifier_words, listed, literal_words, name_words}
-use Rattle.sql_words.specs.Trees.{filter_words}
+use Rattle.sql_print.specs.sql_query.specs.declared.literal.Literal.{Literal}
+use Rattle.sql_print.specs.sql_query.specs.Trees.{ConditionTree}
+use Rattle.sql_print.specs.sql_tokens.specs.declared.kind.Kind.{Kind}
+use Rattle.sql_print.specs.sql_tokens.specs.declared.kind.Kind.TheVariants as k
+use Rattle.sql_print.specs.sql_tokens.specs.Kinds.{is_kind}
+use Rattle.sql_print.specs.sql_tokens.specs.Words.{word_kind}
+use Rattle.sql_print.specs.sql_tokens.specs.Lexing.{Lexeme}
+use Rattle.sql_print.specs.sql_grammar.specs.declared.rule.Rule.TheVariants as rules
+use Rattle.sql_print.specs.sql_grammar.specs.declared.test.Test.TheVariants.{Name, Whole}
+use Rattle.sql_print.specs.sql_grammar.specs.Grammar.{Grammar, Named, Part, Token, token, both, this, that, empty, named, again, enough}
+use Rattle.sql_print.specs.sql_grammar.specs.Notation.{optional, repeated, the, ◌▸◌}
+use Rattle.sql_print.specs.sql_grammar.specs.Loading.{altered as altered_part, loaded as loaded_part, unloaded as unloaded_part}
+use Rattle.sql_print.specs.sql_grammar.specs.Groups.{state as state_part}
+use Rattle.sql_print.specs.sql_grammar.specs.Queries.{filtered as filter_part}
+use Rattle.sql_print.specs.sql_grammar.specs.Tables.{index as index_part}
+use Rattle.sql_print.specs.sql_subset.specs.declared.stmt.Alter.{Alter}
+use Rattle.sql_print.specs.sql_subset.specs.declared.stmt.CreateIndex.{CreateIndex}
+use Rattle.sql_print.specs.sql_subset.specs.declared.stmt.Load as loads
+use Rattle.sql_print.specs.sql_subset.specs.declared.stmt.OfGroup.{OfGroup}
+use Rattle.sql_print.specs.sql_subset.specs.declared.stmt.Which.{Which}
+use Rattle.sql_print.specs.sql_subset.specs.declared.stmt.RefreshState.{RefreshState}
+use Rattle.sql_print.specs.sql_subset.specs.Groups.{state_of}
+use Rattle.sql_print.specs.sql_subset.specs.Statements.{chosen, chosen_where, commit_every_of, counted, id_of, load_chosen, load_counted, load_named, load_of, loaded, parallel_of, which_of}
+use Rattle.sql_print.specs.sql_phrases.specs.Reading.{first_kind, first_text, identifier_of, identifiers_of, literal_of, literals_of, name_of, number_of}
+use Rattle.sql_print.specs.sql_phrases.specs.Conditions.{filter_of}
+use Rattle.sql_print.specs.sql_phrases.proofs.Shrinking.{literal_shrinks}
+use Rattle.sql_print.specs.sql_words.specs.Words.{Word, identifier_words, listed, literal_words, name_words}
+use Rattle.sql_print.specs.sql_words.specs.Trees.{filter_words}
 use Rattle.sql_print.specs.Groups.{state_word}
 use Rattle.sql_print.specs.Statements.{commit_words, id_words, index_words, load_words, of_group_words, parallel_words, which_words}
 use Rattle.print_laws.proofs.Conditions.{Closes}
@@ -41,7 +41,7 @@ use Rattle.print_laws.proofs.Lexed.{Lexes, tokens}
 use Rattle.print_laws.proofs.Lists.{SomeGood, listed_by}
 use Rattle.print_laws.proofs.Literals.{IsLiteral, digits_lexes, digits_whole, put_literal}
 use Rattle.print_laws.proofs.Names.{IsIdentifier, IsName, put_identifier, put_name}
-use Rattle.print_laws.proofs.Numbers.{IsCapped, decimal_digits, number_back}
+use Rattle.print_laws.proofs.NumberLaws.{IsCapped, decimal_digits, number_back}
 use Rattle.print_laws.proofs.Put.{Never, Put, never_word, put_both, put_last, put_map, put_none, put_word, put_words}
 use Rattle.print_laws.proofs.Tails.{Around, PutTo, put_of, to_both, to_list, to_put}
 

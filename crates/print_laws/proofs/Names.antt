@@ -5,19 +5,19 @@ use Rattle.std.proofs.lemmas.List.{length-append, take-append-drop}
 use Rattle.std.proofs.lemmas.List.Sums.{passes_at_first}
 use Rattle.std.proofs.Math.Seq.{take-append_seam}
 use Rattle.std.specs.List.{list_all, position, position_or_len}
-use Rattle.tier_base.specs.Names.{folded, is_identifier, is_name, is_name_at, is_word_byte}
-use Rattle.sql_tokens.specs.declared.kind.Kind.{Kind}
-use Rattle.sql_tokens.specs.declared.kind.Kind.TheVariants.{Dot}
-use Rattle.sql_tokens.specs.Words.{word_kind}
-use Rattle.sql_tokens.specs.Lexing.{Lexeme}
-use Rattle.sql_grammar.specs.declared.rule.Rule.TheVariants as rules
-use Rattle.sql_grammar.specs.declared.test.Test.TheVariants.{Name}
-use Rattle.sql_grammar.specs.Tests.{passes}
-use Rattle.sql_grammar.specs.Grammar.{Grammar, Named, Token, token, both, this, that, empty, named}
-use Rattle.sql_grammar.specs.Notation.{optional, ◌▸◌}
-use Rattle.sql_grammar.proofs.Lists.{and_left, and_right}
-use Rattle.sql_phrases.specs.Reading.{begins, column_of, first_kind, first_text, identifier_of, name_from, name_of, past_column}
-use Rattle.sql_words.specs.Words.{Word, column_name_words, column_name_words_at, name_words, name_words_at}
+use Rattle.sql_print.specs.tier_base.specs.Names.{folded, is_identifier, is_name, is_name_at, is_word_byte}
+use Rattle.sql_print.specs.sql_tokens.specs.declared.kind.Kind.{Kind}
+use Rattle.sql_print.specs.sql_tokens.specs.declared.kind.Kind.TheVariants.{Dot}
+use Rattle.sql_print.specs.sql_tokens.specs.Words.{word_kind}
+use Rattle.sql_print.specs.sql_tokens.specs.Lexing.{Lexeme}
+use Rattle.sql_print.specs.sql_grammar.specs.declared.rule.Rule.TheVariants as rules
+use Rattle.sql_print.specs.sql_grammar.specs.declared.test.Test.TheVariants.{Name}
+use Rattle.sql_print.specs.sql_grammar.specs.Tests.{passes}
+use Rattle.sql_print.specs.sql_grammar.specs.Grammar.{Grammar, Named, Token, token, both, this, that, empty, named}
+use Rattle.sql_print.specs.sql_grammar.specs.Notation.{optional, ◌▸◌}
+use Rattle.sql_print.specs.sql_grammar.proofs.Lists.{and_left, and_right}
+use Rattle.sql_print.specs.sql_phrases.specs.Reading.{begins, column_of, first_kind, first_text, identifier_of, name_from, name_of, past_column}
+use Rattle.sql_print.specs.sql_words.specs.Words.{Word, column_name_words, column_name_words_at, name_words, name_words_at}
 use Rattle.print_laws.proofs.Keywords.{dot_word}
 use Rattle.print_laws.proofs.Lexed.{Lexes, begun_by, lexes_word, tokens}
 use Rattle.print_laws.proofs.Put.{Never, Put, Takes, put_last, put_none, put_word, put_words}

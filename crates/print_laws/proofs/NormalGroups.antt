@@ -1,9 +1,9 @@
 -- The normal form of a group that a statement can define is such too.
 use Rattle.std.proofs.Common.{Bool, true, false, List, [], ◌∷◌, map, Option, Some, None}
-use Rattle.sql_subset.specs.declared.stmt.AgingClause.{AgingClause}
-use Rattle.sql_subset.specs.declared.stmt.CreateGroup as groups
-use Rattle.sql_subset.specs.declared.stmt.GroupKind.{GroupKind}
-use Rattle.sql_subset.specs.declared.stmt.GroupTable.{GroupTable}
+use Rattle.sql_print.specs.sql_subset.specs.declared.stmt.AgingClause.{AgingClause}
+use Rattle.sql_print.specs.sql_subset.specs.declared.stmt.CreateGroup as groups
+use Rattle.sql_print.specs.sql_subset.specs.declared.stmt.GroupKind.{GroupKind}
+use Rattle.sql_print.specs.sql_subset.specs.declared.stmt.GroupTable.{GroupTable}
 use Rattle.sql_print.specs.Normal.{normal_aging, normal_group, normal_group_table, normal_group_tables}
 use Rattle.print_laws.proofs.GroupTables.{IsAging, IsGroupTable}
 use Rattle.print_laws.proofs.Groups.{IsGroup}

@@ -3,12 +3,12 @@ use Rattle.std.proofs.Common.{ℕ, Bool, true, false, cond, eqb, List, [], ◌�
 use Rattle.std.specs.List.{filter, list_all}
 use Rattle.std.specs.Option.{option_or}
 use Rattle.std.specs.Char.{is_ascii_digit}
-use Rattle.row_types.specs.declared.declaration.TypeDeclaration.{TypeDeclaration}
-use Rattle.row_types.specs.declared.declaration.TypeDeclaration.TheVariants as types
-use Rattle.row_types.specs.declared.declaration.ColumnDeclaration.{ColumnDeclaration}
-use Rattle.row_types.specs.declared.declaration.TableDeclaration.{TableDeclaration}
-use Rattle.sql_grammar.proofs.Lists.{and_right}
-use Rattle.sql_words.specs.NormalTables.{by_value, foreign_columns, marked, normal_column, normal_table, normal_type, scale_by_value, single_key, with_key}
+use Rattle.sql_print.specs.row_types.specs.declared.declaration.TypeDeclaration.{TypeDeclaration}
+use Rattle.sql_print.specs.row_types.specs.declared.declaration.TypeDeclaration.TheVariants as types
+use Rattle.sql_print.specs.row_types.specs.declared.declaration.ColumnDeclaration.{ColumnDeclaration}
+use Rattle.sql_print.specs.row_types.specs.declared.declaration.TableDeclaration.{TableDeclaration}
+use Rattle.sql_print.specs.sql_grammar.proofs.Lists.{and_right}
+use Rattle.sql_print.specs.sql_words.specs.NormalTables.{by_value, foreign_columns, marked, normal_column, normal_table, normal_type, scale_by_value, single_key, with_key}
 use Rattle.print_laws.proofs.Columns.{IsColumn, IsScale, IsType}
 use Rattle.print_laws.proofs.Lists.{AllGood, SomeGood}
 use Rattle.print_laws.proofs.Literals.{IsDigits}

@@ -1,16 +1,16 @@
 -- Words that a grammar reads, and what is read of them.
 use Rattle.std.proofs.Common.{◌≡◌, ℕ, suc, ◌≤◌, Bool, true, false, List, [], ◌∷◌, length, refl, sym, ap, ◌∙◌, subst}
-use Rattle.sql_tokens.specs.declared.kind.Kind.{Kind}
-use Rattle.sql_tokens.specs.Kinds.{is_kind}
-use Rattle.sql_tokens.specs.Lexing.{Lexeme, lexeme}
-use Rattle.sql_grammar.specs.declared.test.Test.{Test}
-use Rattle.sql_grammar.specs.Grammar.{Grammar, Parts, Part, Reads, Many, Then, both, again, enough}
-use Rattle.sql_grammar.specs.Sql.{rule}
-use Rattle.sql_grammar.specs.Tests.{passes}
-use Rattle.sql_subset.specs.Lines.{kinds_in}
-use Rattle.sql_phrases.specs.Reading.{begins, chained}
-use Rattle.sql_phrases.proofs.Chains.{Chaining, chain_ends, chain_more}
-use Rattle.sql_words.specs.Words.{Word}
+use Rattle.sql_print.specs.sql_tokens.specs.declared.kind.Kind.{Kind}
+use Rattle.sql_print.specs.sql_tokens.specs.Kinds.{is_kind}
+use Rattle.sql_print.specs.sql_tokens.specs.Lexing.{Lexeme, lexeme}
+use Rattle.sql_print.specs.sql_grammar.specs.declared.test.Test.{Test}
+use Rattle.sql_print.specs.sql_grammar.specs.Grammar.{Grammar, Parts, Part, Reads, Many, Then, both, again, enough}
+use Rattle.sql_print.specs.sql_grammar.specs.Sql.{rule}
+use Rattle.sql_print.specs.sql_grammar.specs.Tests.{passes}
+use Rattle.sql_print.specs.sql_subset.specs.Lines.{kinds_in}
+use Rattle.sql_print.specs.sql_phrases.specs.Reading.{begins, chained}
+use Rattle.sql_print.specs.sql_phrases.proofs.Chains.{Chaining, chain_ends, chain_more}
+use Rattle.sql_print.specs.sql_words.specs.Words.{Word}
 use Rattle.print_laws.proofs.Fine.{IsFine, fine_more}
 use Rattle.print_laws.proofs.Lexed.{Lexes, begun_by, tokens}
 

@@ -1,34 +1,34 @@
 -- Queries that are put are read back.
 use Rattle.std.proofs.Common.{◌≡◌, ℕ, Bool, true, false, ◌||◌, List, [], ◌∷◌, ◌++◌, map, drop, codes, Option, Some, None, refl, sym, ap, ◌∙◌, subst, append_assoc, append-nil}
 use Rattle.std.specs.List.{list_all, filter_map}
-use Rattle.sql_query.specs.declared.query.Aggregate.{Aggregate}
-use Rattle.sql_query.specs.declared.query.FromTable.{FromTable}
-use Rattle.sql_query.specs.declared.query.OrderItem.{OrderItem}
-use Rattle.sql_query.specs.declared.query.Query.{Query}
-use Rattle.sql_query.specs.declared.query.SelectItem.{SelectItem}
-use Rattle.sql_query.specs.declared.query.SelectItem.TheVariants as items
-use Rattle.sql_query.specs.declared.query.SelectList.{SelectList}
-use Rattle.sql_query.specs.declared.query.SelectList.TheVariants as lists
-use Rattle.sql_query.specs.Items.{aggregate_in, expression_in}
-use Rattle.sql_query.specs.Trees.{ConditionTree, ExpressionTree}
-use Rattle.sql_tokens.specs.declared.kind.Kind.{Kind}
-use Rattle.sql_tokens.specs.declared.kind.Kind.TheVariants as k
-use Rattle.sql_tokens.specs.Kinds.{is_kind}
-use Rattle.sql_tokens.specs.Words.{word_kind}
-use Rattle.sql_tokens.specs.Lexing.{Lexeme, lexeme}
-use Rattle.sql_grammar.specs.declared.rule.Rule.TheVariants as rules
-use Rattle.sql_grammar.specs.declared.test.Test.TheVariants.{Direction, Name}
-use Rattle.sql_grammar.specs.Tests.{passes}
-use Rattle.sql_grammar.specs.Grammar.{Grammar, Either, Empty, Named, Parts, Part, Reads, token, both, this, that, empty, named, again, enough}
-use Rattle.sql_grammar.specs.Notation.{optional, repeated, the, ◌▸◌}
-use Rattle.sql_grammar.specs.Sql.{rule}
-use Rattle.sql_grammar.specs.Queries.{colref, filtered as filter_part, groups as groups_part, ordered as order_part, select, source as source_part, sources as sources_part}
-use Rattle.sql_phrases.specs.Reading.{column_of, columns_of, first_kind, name_from, name_of}
-use Rattle.sql_phrases.specs.Conditions.{filter_of}
-use Rattle.sql_phrases.specs.Queries.{aliased, groups_of, is_aggregate, is_expression, list_of, order_item_of, order_items_of, order_of, ordered, query_filtered, query_from, query_grouped, query_listed, query_of, query_ordered, selected_of, source_of, sources_of}
-use Rattle.sql_phrases.proofs.Shrinking.{column_name_shrinks, order_item_shrinks, source_shrinks}
-use Rattle.sql_words.specs.Words.{Word, column_name_words, listed, more, name_words}
-use Rattle.sql_words.specs.Trees.{expression_words, filter_words}
+use Rattle.sql_print.specs.sql_query.specs.declared.query.Aggregate.{Aggregate}
+use Rattle.sql_print.specs.sql_query.specs.declared.query.FromTable.{FromTable}
+use Rattle.sql_print.specs.sql_query.specs.declared.query.OrderItem.{OrderItem}
+use Rattle.sql_print.specs.sql_query.specs.declared.query.Query.{Query}
+use Rattle.sql_print.specs.sql_query.specs.declared.query.SelectItem.{SelectItem}
+use Rattle.sql_print.specs.sql_query.specs.declared.query.SelectItem.TheVariants as items
+use Rattle.sql_print.specs.sql_query.specs.declared.query.SelectList.{SelectList}
+use Rattle.sql_print.specs.sql_query.specs.declared.query.SelectList.TheVariants as lists
+use Rattle.sql_print.specs.sql_query.specs.Items.{aggregate_in, expression_in}
+use Rattle.sql_print.specs.sql_query.specs.Trees.{ConditionTree, ExpressionTree}
+use Rattle.sql_print.specs.sql_tokens.specs.declared.kind.Kind.{Kind}
+use Rattle.sql_print.specs.sql_tokens.specs.declared.kind.Kind.TheVariants as k
+use Rattle.sql_print.specs.sql_tokens.specs.Kinds.{is_kind}
+use Rattle.sql_print.specs.sql_tokens.specs.Words.{word_kind}
+use Rattle.sql_print.specs.sql_tokens.specs.Lexing.{Lexeme, lexeme}
+use Rattle.sql_print.specs.sql_grammar.specs.declared.rule.Rule.TheVariants as rules
+use Rattle.sql_print.specs.sql_grammar.specs.declared.test.Test.TheVariants.{Direction, Name}
+use Rattle.sql_print.specs.sql_grammar.specs.Tests.{passes}
+use Rattle.sql_print.specs.sql_grammar.specs.Grammar.{Grammar, Either, Empty, Named, Parts, Part, Reads, token, both, this, that, empty, named, again, enough}
+use Rattle.sql_print.specs.sql_grammar.specs.Notation.{optional, repeated, the, ◌▸◌}
+use Rattle.sql_print.specs.sql_grammar.specs.Sql.{rule}
+use Rattle.sql_print.specs.sql_grammar.specs.Queries.{colref, filtered as filter_part, groups as groups_part, ordered as order_part, select, source as source_part, sources as sources_part}
+use Rattle.sql_print.specs.sql_phrases.specs.Reading.{column_of, columns_of, first_kind, name_from, name_of}
+use Rattle.sql_print.specs.sql_phrases.specs.Conditions.{filter_of}
+use Rattle.sql_print.specs.sql_phrases.specs.Queries.{aliased, groups_of, is_aggregate, is_expression, list_of, order_item_of, order_items_of, order_of, ordered, query_filtered, query_from, query_grouped, query_listed, query_of, query_ordered, selected_of, source_of, sources_of}
+use Rattle.sql_print.specs.sql_phrases.proofs.Shrinking.{column_name_shrinks, order_item_shrinks, source_shrinks}
+use Rattle.sql_print.specs.sql_words.specs.Words.{Word, column_name_words, listed, more, name_words}
+use Rattle.sql_print.specs.sql_words.specs.Trees.{expression_words, filter_words}
 use Rattle.sql_print.specs.Queries.{aggregate_words, alias_words, direction_word, grouping_words, item_words, order_item_words, order_words, query_words, selected_words, source_words}
 use Rattle.print_laws.proofs.Conditions.{Closes}
 use Rattle.print_laws.proofs.Expressions.{IsSum, Stops, stops_word}

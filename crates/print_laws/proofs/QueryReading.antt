@@ -2,33 +2,33 @@
 use Rattle.std.proofs.Common.{◌≡◌, ℕ, zero, suc, ◌≤◌, Bool, true, false, cond, List, [], ◌∷◌, ◌++◌, length, drop, refl, sym, ◌∙◌, subst, arith, length-drop, append_assoc, append-nil}
 use Rattle.std.proofs.lemmas.Bool.Decides.{nat_tests}
 use Rattle.std.specs.List.{list_all, filter_map}
-use Rattle.sql_query.specs.declared.query.Aggregate.TheVariants as aggregates
-use Rattle.sql_query.specs.declared.query.FromTable.{FromTable}
-use Rattle.sql_query.specs.declared.query.OrderItem.{OrderItem}
-use Rattle.sql_query.specs.declared.query.SelectItem.{SelectItem}
-use Rattle.sql_query.specs.declared.query.SelectItem.TheVariants as items
-use Rattle.sql_query.specs.declared.query.SelectList.{SelectList}
-use Rattle.sql_query.specs.declared.query.SelectList.TheVariants as lists
-use Rattle.sql_query.specs.declared.write.Assignment.{Assignment}
-use Rattle.sql_query.specs.Items.{aggregate_in, expression_in}
-use Rattle.sql_query.specs.Trees.{ExpressionTree}
-use Rattle.sql_tokens.specs.declared.kind.Kind.{Kind}
-use Rattle.sql_tokens.specs.declared.kind.Kind.TheVariants as k
-use Rattle.sql_tokens.specs.Kinds.{is_kind}
-use Rattle.sql_tokens.specs.Lexing.{Lexeme}
-use Rattle.sql_grammar.specs.declared.rule.Rule.TheVariants as rules
-use Rattle.sql_grammar.specs.declared.test.Test.TheVariants.{Direction, Fold, Name, Only}
-use Rattle.sql_grammar.specs.Tests.{passes}
-use Rattle.sql_grammar.specs.Grammar.{Grammar, Either, Empty, Named, Parts, Part}
-use Rattle.sql_grammar.specs.Notation.{optional, repeated, the, ◌▸◌}
-use Rattle.sql_grammar.specs.Queries.{after, colref, filtered as filter_part, grouped as grouped_part, groups as groups_part, ordered as order_part, select, source as source_part}
-use Rattle.sql_grammar.specs.Writes.{assign as assign_part}
-use Rattle.sql_phrases.specs.Reading.{at_comma, begins, chained, column_of, columns_of, first_kind, identifiers_of, name_of, with_last}
-use Rattle.sql_phrases.specs.Expressions.{expression_of, expressions_of}
-use Rattle.sql_phrases.specs.Conditions.{filter_of}
-use Rattle.sql_phrases.specs.Queries.{as_item, as_select_list, count_of, folded, folded_by, groups_of, is_aggregate, is_expression, item_of, items_of, list_of, order_item_of, order_items_of, order_of, ordered, query_of, selected_of, source_of, sources_of}
-use Rattle.sql_phrases.specs.Writes.{as_delete, as_insert, as_update, assignment_of, assignments_of, delete_of, insert_columns_of, insert_of, update_of, write_of}
-use Rattle.sql_phrases.proofs.Shrinking.{assignment_shrinks, column_name_shrinks, item_shrinks, order_item_shrinks, source_shrinks}
+use Rattle.sql_print.specs.sql_query.specs.declared.query.Aggregate.TheVariants as aggregates
+use Rattle.sql_print.specs.sql_query.specs.declared.query.FromTable.{FromTable}
+use Rattle.sql_print.specs.sql_query.specs.declared.query.OrderItem.{OrderItem}
+use Rattle.sql_print.specs.sql_query.specs.declared.query.SelectItem.{SelectItem}
+use Rattle.sql_print.specs.sql_query.specs.declared.query.SelectItem.TheVariants as items
+use Rattle.sql_print.specs.sql_query.specs.declared.query.SelectList.{SelectList}
+use Rattle.sql_print.specs.sql_query.specs.declared.query.SelectList.TheVariants as lists
+use Rattle.sql_print.specs.sql_query.specs.declared.write.Assignment.{Assignment}
+use Rattle.sql_print.specs.sql_query.specs.Items.{aggregate_in, expression_in}
+use Rattle.sql_print.specs.sql_query.specs.Trees.{ExpressionTree}
+use Rattle.sql_print.specs.sql_tokens.specs.declared.kind.Kind.{Kind}
+use Rattle.sql_print.specs.sql_tokens.specs.declared.kind.Kind.TheVariants as k
+use Rattle.sql_print.specs.sql_tokens.specs.Kinds.{is_kind}
+use Rattle.sql_print.specs.sql_tokens.specs.Lexing.{Lexeme}
+use Rattle.sql_print.specs.sql_grammar.specs.declared.rule.Rule.TheVariants as rules
+use Rattle.sql_print.specs.sql_grammar.specs.declared.test.Test.TheVariants.{Direction, Fold, Name, Only}
+use Rattle.sql_print.specs.sql_grammar.specs.Tests.{passes}
+use Rattle.sql_print.specs.sql_grammar.specs.Grammar.{Grammar, Either, Empty, Named, Parts, Part}
+use Rattle.sql_print.specs.sql_grammar.specs.Notation.{optional, repeated, the, ◌▸◌}
+use Rattle.sql_print.specs.sql_grammar.specs.Queries.{after, colref, filtered as filter_part, grouped as grouped_part, groups as groups_part, ordered as order_part, select, source as source_part}
+use Rattle.sql_print.specs.sql_grammar.specs.Writes.{assign as assign_part}
+use Rattle.sql_print.specs.sql_phrases.specs.Reading.{at_comma, begins, chained, column_of, columns_of, first_kind, identifiers_of, name_of, with_last}
+use Rattle.sql_print.specs.sql_phrases.specs.Expressions.{expression_of, expressions_of}
+use Rattle.sql_print.specs.sql_phrases.specs.Conditions.{filter_of}
+use Rattle.sql_print.specs.sql_phrases.specs.Queries.{as_item, as_select_list, count_of, folded, folded_by, groups_of, is_aggregate, is_expression, item_of, items_of, list_of, order_item_of, order_items_of, order_of, ordered, query_of, selected_of, source_of, sources_of}
+use Rattle.sql_print.specs.sql_phrases.specs.Writes.{as_delete, as_insert, as_update, assignment_of, assignments_of, delete_of, insert_columns_of, insert_of, update_of, write_of}
+use Rattle.sql_print.specs.sql_phrases.proofs.Shrinking.{assignment_shrinks, column_name_shrinks, item_shrinks, order_item_shrinks, source_shrinks}
 use Rattle.print_laws.proofs.Expressions.{IsSum}
 use Rattle.print_laws.proofs.Items.{Aggs, Exprs, IsAggregate, IsItem, IsSelected, Mixed, Mode, behind_item, first_mode, item_front, last_mode, mode_rule, next_mode}
 use Rattle.print_laws.proofs.Lists.{AllGood, SomeGood}

@@ -1,22 +1,22 @@
 -- What is read off the tokens of bytes without a bad one: names, columns and tables.
 use Rattle.std.proofs.Common.{◌≡◌, ℕ, zero, suc, ◌≤◌, Bool, true, false, cond, ◌&&◌, eqb, List, [], ◌∷◌, ◌++◌, length, drop, refl, sym, ap, ◌∙◌, subst, arith}
 use Rattle.std.proofs.lemmas.Bool.Decides.{nat_tests}
-use Rattle.sql_tokens.specs.declared.kind.Kind.{Kind}
-use Rattle.sql_tokens.specs.declared.kind.Kind.TheVariants as k
-use Rattle.sql_tokens.specs.Kinds.{code, is_kind}
-use Rattle.sql_tokens.specs.Lexing.{Lexeme}
-use Rattle.sql_grammar.specs.declared.rule.Rule.TheVariants as rules
-use Rattle.sql_grammar.specs.declared.test.Test.TheVariants.{Only, Name, Whole}
-use Rattle.sql_grammar.specs.Tests.{passes}
-use Rattle.sql_grammar.specs.Grammar.{Grammar, Parts, Part, Empty, Named, Token}
-use Rattle.sql_grammar.specs.Notation.{choice, optional, the, ◌▸◌}
-use Rattle.sql_grammar.specs.Tables.{after_key, column_rest, column_type, foreign_rest, key_rest, table}
-use Rattle.sql_phrases.specs.declared.tables.CacheTable.{CacheTable}
-use Rattle.sql_phrases.specs.declared.tables.Element.{Element}
-use Rattle.sql_phrases.specs.declared.tables.Element.TheVariants as elements
-use Rattle.sql_phrases.specs.Reading.{at_comma, begins, chained, first_kind, first_text, identifier_of, identifiers_of, name_from, name_of, past_one, with_last}
-use Rattle.sql_phrases.specs.Tables.{as_column, as_foreign_key, as_key, closes, column_of, element_of, foreign_key_of, number_type, past_two, past_word, table_of, table_with, text_type, time_type, type_of, with_element}
-use Rattle.sql_phrases.proofs.Shrinking.{element_shrinks, identifier_shrinks}
+use Rattle.sql_print.specs.sql_tokens.specs.declared.kind.Kind.{Kind}
+use Rattle.sql_print.specs.sql_tokens.specs.declared.kind.Kind.TheVariants as k
+use Rattle.sql_print.specs.sql_tokens.specs.Kinds.{code, is_kind}
+use Rattle.sql_print.specs.sql_tokens.specs.Lexing.{Lexeme}
+use Rattle.sql_print.specs.sql_grammar.specs.declared.rule.Rule.TheVariants as rules
+use Rattle.sql_print.specs.sql_grammar.specs.declared.test.Test.TheVariants.{Only, Name, Whole}
+use Rattle.sql_print.specs.sql_grammar.specs.Tests.{passes}
+use Rattle.sql_print.specs.sql_grammar.specs.Grammar.{Grammar, Parts, Part, Empty, Named, Token}
+use Rattle.sql_print.specs.sql_grammar.specs.Notation.{choice, optional, the, ◌▸◌}
+use Rattle.sql_print.specs.sql_grammar.specs.Tables.{after_key, column_rest, column_type, foreign_rest, key_rest, table}
+use Rattle.sql_print.specs.sql_phrases.specs.declared.tables.CacheTable.{CacheTable}
+use Rattle.sql_print.specs.sql_phrases.specs.declared.tables.Element.{Element}
+use Rattle.sql_print.specs.sql_phrases.specs.declared.tables.Element.TheVariants as elements
+use Rattle.sql_print.specs.sql_phrases.specs.Reading.{at_comma, begins, chained, first_kind, first_text, identifier_of, identifiers_of, name_from, name_of, past_one, with_last}
+use Rattle.sql_print.specs.sql_phrases.specs.Tables.{as_column, as_foreign_key, as_key, closes, column_of, element_of, foreign_key_of, number_type, past_two, past_word, table_of, table_with, text_type, time_type, type_of, with_element}
+use Rattle.sql_print.specs.sql_phrases.proofs.Shrinking.{element_shrinks, identifier_shrinks}
 use Rattle.print_laws.proofs.Columns.{IsColumn, IsType}
 use Rattle.print_laws.proofs.Fits.{Fits}
 use Rattle.print_laws.proofs.Folded.{identifier_read, name_read}

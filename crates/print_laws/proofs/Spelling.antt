@@ -1,38 +1,38 @@
 -- Each statement that is printed spells its normal form.
 use Rattle.std.proofs.Common.{◌≡◌, ℕ, Bool, true, false, cond, List, [], ◌∷◌, ◌++◌, drop, codes, refl, sym, ap, ◌∙◌, subst, append_assoc, append-nil}
-use Rattle.sql_query.specs.declared.literal.Literal.{Literal}
-use Rattle.sql_query.specs.declared.query.Query.{Query}
-use Rattle.sql_query.specs.declared.write.Delete.{Delete}
-use Rattle.sql_query.specs.declared.write.Insert.{Insert}
-use Rattle.sql_query.specs.declared.write.Update.{Update}
-use Rattle.sql_query.specs.declared.write.Write.{Write}
-use Rattle.sql_query.specs.declared.write.Write.TheVariants as writes
-use Rattle.sql_tokens.specs.declared.kind.Kind.{Kind}
-use Rattle.sql_tokens.specs.declared.kind.Kind.TheVariants as k
-use Rattle.sql_tokens.specs.Lexing.{Lexeme, lexeme}
-use Rattle.sql_grammar.specs.declared.rule.Rule.TheVariants as rules
-use Rattle.sql_grammar.specs.Grammar.{Empty, Grammar, Named, Over, Part, Parts, Reads, Token, both, empty, named, that, this, token}
-use Rattle.sql_grammar.specs.Notation.{choice, optional, the, ◌▸◌}
-use Rattle.sql_grammar.specs.declared.test.Test.TheVariants.{Name}
-use Rattle.sql_grammar.specs.Groups.{create as create_part}
-use Rattle.sql_grammar.specs.Loading.{altered as altered_part, dropped as dropped_part, loaded as loaded_part, unloaded as unloaded_part}
-use Rattle.sql_grammar.specs.Tables.{index as index_part}
-use Rattle.sql_grammar.specs.Queries.{select}
-use Rattle.sql_grammar.specs.Sql.{rule}
-use Rattle.sql_grammar.specs.Statements.{statement as statement_part}
-use Rattle.sql_subset.specs.declared.stmt.Alter.{Alter}
-use Rattle.sql_subset.specs.declared.stmt.Call as calls
-use Rattle.sql_subset.specs.declared.stmt.CreateIndex.{CreateIndex}
-use Rattle.sql_subset.specs.declared.stmt.Load as loads
-use Rattle.sql_subset.specs.declared.stmt.OfGroup.{OfGroup}
-use Rattle.sql_subset.specs.declared.stmt.Stmt.{Stmt}
-use Rattle.sql_subset.specs.declared.stmt.Stmt.TheVariants as v
-use Rattle.sql_subset.specs.Lines.{Spells, kinds_in}
-use Rattle.sql_subset.specs.Statements.{call_named, call_with, create_of, drop_of, group_statement_of, index_of, load_of, of_group_of, statement_of}
-use Rattle.sql_phrases.specs.Reading.{begins, identifier_of, literals_of, name_of}
-use Rattle.sql_phrases.specs.Queries.{query_of}
-use Rattle.sql_phrases.specs.Writes.{delete_of, insert_of, update_of, write_of}
-use Rattle.sql_words.specs.Words.{Word, listed, literal_words, more, name_words}
+use Rattle.sql_print.specs.sql_query.specs.declared.literal.Literal.{Literal}
+use Rattle.sql_print.specs.sql_query.specs.declared.query.Query.{Query}
+use Rattle.sql_print.specs.sql_query.specs.declared.write.Delete.{Delete}
+use Rattle.sql_print.specs.sql_query.specs.declared.write.Insert.{Insert}
+use Rattle.sql_print.specs.sql_query.specs.declared.write.Update.{Update}
+use Rattle.sql_print.specs.sql_query.specs.declared.write.Write.{Write}
+use Rattle.sql_print.specs.sql_query.specs.declared.write.Write.TheVariants as writes
+use Rattle.sql_print.specs.sql_tokens.specs.declared.kind.Kind.{Kind}
+use Rattle.sql_print.specs.sql_tokens.specs.declared.kind.Kind.TheVariants as k
+use Rattle.sql_print.specs.sql_tokens.specs.Lexing.{Lexeme, lexeme}
+use Rattle.sql_print.specs.sql_grammar.specs.declared.rule.Rule.TheVariants as rules
+use Rattle.sql_print.specs.sql_grammar.specs.Grammar.{Empty, Grammar, Named, Over, Part, Parts, Reads, Token, both, empty, named, that, this, token}
+use Rattle.sql_print.specs.sql_grammar.specs.Notation.{choice, optional, the, ◌▸◌}
+use Rattle.sql_print.specs.sql_grammar.specs.declared.test.Test.TheVariants.{Name}
+use Rattle.sql_print.specs.sql_grammar.specs.Groups.{create as create_part}
+use Rattle.sql_print.specs.sql_grammar.specs.Loading.{altered as altered_part, dropped as dropped_part, loaded as loaded_part, unloaded as unloaded_part}
+use Rattle.sql_print.specs.sql_grammar.specs.Tables.{index as index_part}
+use Rattle.sql_print.specs.sql_grammar.specs.Queries.{select}
+use Rattle.sql_print.specs.sql_grammar.specs.Sql.{rule}
+use Rattle.sql_print.specs.sql_grammar.specs.Statements.{statement as statement_part}
+use Rattle.sql_print.specs.sql_subset.specs.declared.stmt.Alter.{Alter}
+use Rattle.sql_print.specs.sql_subset.specs.declared.stmt.Call as calls
+use Rattle.sql_print.specs.sql_subset.specs.declared.stmt.CreateIndex.{CreateIndex}
+use Rattle.sql_print.specs.sql_subset.specs.declared.stmt.Load as loads
+use Rattle.sql_print.specs.sql_subset.specs.declared.stmt.OfGroup.{OfGroup}
+use Rattle.sql_print.specs.sql_subset.specs.declared.stmt.Stmt.{Stmt}
+use Rattle.sql_print.specs.sql_subset.specs.declared.stmt.Stmt.TheVariants as v
+use Rattle.sql_print.specs.sql_subset.specs.Lines.{Spells, kinds_in}
+use Rattle.sql_print.specs.sql_subset.specs.Statements.{call_named, call_with, create_of, drop_of, group_statement_of, index_of, load_of, of_group_of, statement_of}
+use Rattle.sql_print.specs.sql_phrases.specs.Reading.{begins, identifier_of, literals_of, name_of}
+use Rattle.sql_print.specs.sql_phrases.specs.Queries.{query_of}
+use Rattle.sql_print.specs.sql_phrases.specs.Writes.{delete_of, insert_of, update_of, write_of}
+use Rattle.sql_print.specs.sql_words.specs.Words.{Word, listed, literal_words, more, name_words}
 use Rattle.sql_print.specs.Groups.{state_word}
 use Rattle.sql_print.specs.Normal.{normal}
 use Rattle.sql_print.specs.Printed.{printed}

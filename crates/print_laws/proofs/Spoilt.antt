@@ -6,8 +6,8 @@ use Rattle.std.proofs.Math.Seq.{take-length}
 use Rattle.std.specs.Str.{IsUtf8, is_utf8}
 use Rattle.std.specs.Str.Lossy.{utf8_valid_len, valid_len_up_to}
 use Rattle.std.specs.List.{list_all, position_or_len}
-use Rattle.sql_tokens.specs.Heads.{good_length, is_control, or_end, place_or_end}
-use Rattle.sql_subset.specs.Lines.{is_spoilt}
+use Rattle.sql_print.specs.sql_tokens.specs.Heads.{good_length, is_control, or_end, place_or_end}
+use Rattle.sql_print.specs.sql_subset.specs.Lines.{is_spoilt}
 use Rattle.print_laws.proofs.Fine.{IsFineText}
 
 valid_le : (bs : List ℕ) (n : ℕ) → valid_len_up_to bs n ≤ n

@@ -1,22 +1,22 @@
 -- What is still to be read of a line, token by token.
 use Rattle.std.proofs.Common.{◌≡◌, ℕ, zero, suc, ◌≤◌, Bool, true, false, cond, ◌&&◌, eqb, leb, ltb, Some, List, [], ◌∷◌, length, drop, refl, sym, ◌∙◌, subst, arith, length-drop}
 use Rattle.std.proofs.lemmas.Bool.Decides.{nat_tests}
-use Rattle.sql_tokens.specs.declared.kind.Kind.{Kind}
-use Rattle.sql_tokens.specs.declared.kind.Kind.TheVariants.{Bad}
-use Rattle.sql_tokens.specs.Kinds.{code, is_kind}
-use Rattle.sql_tokens.specs.Lexing.{Lexeme}
-use Rattle.sql_grammar.specs.declared.test.Test.{Test}
-use Rattle.sql_grammar.specs.declared.test.Test.TheVariants.{Only}
-use Rattle.sql_grammar.specs.declared.rule.Rule.{Rule}
-use Rattle.sql_grammar.specs.declared.engine.Move.TheVariants.{On, Took, Deep}
-use Rattle.sql_grammar.specs.Tests.{passes}
-use Rattle.sql_grammar.specs.Grammar.{Grammar, Empty, Token, Then, Either, Many, Deeper, Named, Parts, Part, Reads, ahead, token}
-use Rattle.sql_grammar.specs.Machine.{step_of}
-use Rattle.sql_grammar.specs.Sql.{rule, known}
-use Rattle.sql_grammar.proofs.Passes.{decided, lives}
-use Rattle.sql_grammar.proofs.Steps.{Fine, Law, step_law}
-use Rattle.sql_subset.specs.Lines.{kinds_in}
-use Rattle.sql_phrases.specs.Reading.{begins, chained, first_kind}
+use Rattle.sql_print.specs.sql_tokens.specs.declared.kind.Kind.{Kind}
+use Rattle.sql_print.specs.sql_tokens.specs.declared.kind.Kind.TheVariants.{Bad}
+use Rattle.sql_print.specs.sql_tokens.specs.Kinds.{code, is_kind}
+use Rattle.sql_print.specs.sql_tokens.specs.Lexing.{Lexeme}
+use Rattle.sql_print.specs.sql_grammar.specs.declared.test.Test.{Test}
+use Rattle.sql_print.specs.sql_grammar.specs.declared.test.Test.TheVariants.{Only}
+use Rattle.sql_print.specs.sql_grammar.specs.declared.rule.Rule.{Rule}
+use Rattle.sql_print.specs.sql_grammar.specs.declared.engine.Move.TheVariants.{On, Took, Deep}
+use Rattle.sql_print.specs.sql_grammar.specs.Tests.{passes}
+use Rattle.sql_print.specs.sql_grammar.specs.Grammar.{Grammar, Empty, Token, Then, Either, Many, Deeper, Named, Parts, Part, Reads, ahead, token}
+use Rattle.sql_print.specs.sql_grammar.specs.Machine.{step_of}
+use Rattle.sql_print.specs.sql_grammar.specs.Sql.{rule, known}
+use Rattle.sql_print.specs.sql_grammar.proofs.Passes.{decided, lives}
+use Rattle.sql_print.specs.sql_grammar.proofs.Steps.{Fine, Law, step_law}
+use Rattle.sql_print.specs.sql_subset.specs.Lines.{kinds_in}
+use Rattle.sql_print.specs.sql_phrases.specs.Reading.{begins, chained, first_kind}
 use Rattle.print_laws.proofs.Fits.{Fits}
 use Rattle.print_laws.proofs.Lists.{AllGood}
 

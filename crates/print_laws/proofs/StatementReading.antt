@@ -1,19 +1,19 @@
 -- What is read off the tokens of a statement's bytes.
 use Rattle.std.proofs.Common.{◌≡◌, ℕ, Bool, true, false, cond, ◌||◌, List, [], ◌∷◌, drop, refl, sym, subst}
-use Rattle.sql_query.specs.declared.literal.Literal.{Literal}
-use Rattle.sql_tokens.specs.declared.kind.Kind.{Kind}
-use Rattle.sql_tokens.specs.declared.kind.Kind.TheVariants as k
-use Rattle.sql_tokens.specs.Kinds.{is_kind}
-use Rattle.sql_tokens.specs.Lexing.{Lexeme, lexed}
-use Rattle.sql_grammar.specs.declared.rule.Rule.TheVariants as rules
-use Rattle.sql_grammar.specs.declared.start.Start.TheVariants as starts
-use Rattle.sql_grammar.specs.Grammar.{Empty, Named, Part, Parts}
-use Rattle.sql_grammar.specs.Notation.{choice, optional}
-use Rattle.sql_subset.specs.declared.stmt.Stmt.{Stmt}
-use Rattle.sql_subset.specs.Lines.{Spells}
-use Rattle.sql_subset.specs.Statements.{at_write, call_with, create_of, drop_of, group_statement_of, statement_of}
-use Rattle.sql_phrases.specs.Reading.{begins, first_kind, literals_of, name_of}
-use Rattle.sql_phrases.specs.Writes.{write_of}
+use Rattle.sql_print.specs.sql_query.specs.declared.literal.Literal.{Literal}
+use Rattle.sql_print.specs.sql_tokens.specs.declared.kind.Kind.{Kind}
+use Rattle.sql_print.specs.sql_tokens.specs.declared.kind.Kind.TheVariants as k
+use Rattle.sql_print.specs.sql_tokens.specs.Kinds.{is_kind}
+use Rattle.sql_print.specs.sql_tokens.specs.Lexing.{Lexeme, lexed}
+use Rattle.sql_print.specs.sql_grammar.specs.declared.rule.Rule.TheVariants as rules
+use Rattle.sql_print.specs.sql_grammar.specs.declared.start.Start.TheVariants as starts
+use Rattle.sql_print.specs.sql_grammar.specs.Grammar.{Empty, Named, Part, Parts}
+use Rattle.sql_print.specs.sql_grammar.specs.Notation.{choice, optional}
+use Rattle.sql_print.specs.sql_subset.specs.declared.stmt.Stmt.{Stmt}
+use Rattle.sql_print.specs.sql_subset.specs.Lines.{Spells}
+use Rattle.sql_print.specs.sql_subset.specs.Statements.{at_write, call_with, create_of, drop_of, group_statement_of, statement_of}
+use Rattle.sql_print.specs.sql_phrases.specs.Reading.{begins, first_kind, literals_of, name_of}
+use Rattle.sql_print.specs.sql_phrases.specs.Writes.{write_of}
 use Rattle.print_laws.proofs.Fits.{Fits, all_fit}
 use Rattle.print_laws.proofs.GroupReading.{group_got}
 use Rattle.print_laws.proofs.Lists.{AllGood, SomeGood}

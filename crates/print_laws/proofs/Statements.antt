@@ -1,22 +1,22 @@
 -- Statements that are printed spell their normal form.
 use Rattle.std.proofs.Common.{◌≡◌, ℕ, false, List, [], ◌∷◌, ◌++◌, codes, refl, sym, ap, ◌∙◌, subst, append-nil}
-use Rattle.sql_tokens.specs.declared.kind.Kind.{Kind}
-use Rattle.sql_tokens.specs.declared.kind.Kind.TheVariants as k
-use Rattle.sql_tokens.specs.Lexing.{Lexeme, lexed, lexeme}
-use Rattle.sql_grammar.specs.declared.start.Start.TheVariants as starts
-use Rattle.sql_grammar.specs.Grammar.{Empty, Over, Part, Parts, Reads, both, empty, named, over, that, this}
-use Rattle.sql_grammar.specs.Notation.{optional}
-use Rattle.sql_grammar.specs.Groups.{create_group}
-use Rattle.sql_grammar.specs.Sql.{grammar_of, rule}
-use Rattle.sql_grammar.specs.Statements.{statement as statement_part}
-use Rattle.sql_subset.specs.declared.stmt.CreateGroup as groups
-use Rattle.sql_subset.specs.declared.stmt.Stmt.{Stmt}
-use Rattle.sql_subset.specs.declared.stmt.Stmt.TheVariants as v
-use Rattle.sql_subset.specs.Groups.{group_of}
-use Rattle.sql_subset.specs.Lines.{Spells, kinds_in}
-use Rattle.sql_subset.specs.Statements.{create_of, statement_of}
-use Rattle.sql_phrases.specs.Reading.{begins}
-use Rattle.sql_words.specs.Words.{Word, joined, spaced}
+use Rattle.sql_print.specs.sql_tokens.specs.declared.kind.Kind.{Kind}
+use Rattle.sql_print.specs.sql_tokens.specs.declared.kind.Kind.TheVariants as k
+use Rattle.sql_print.specs.sql_tokens.specs.Lexing.{Lexeme, lexed, lexeme}
+use Rattle.sql_print.specs.sql_grammar.specs.declared.start.Start.TheVariants as starts
+use Rattle.sql_print.specs.sql_grammar.specs.Grammar.{Empty, Over, Part, Parts, Reads, both, empty, named, over, that, this}
+use Rattle.sql_print.specs.sql_grammar.specs.Notation.{optional}
+use Rattle.sql_print.specs.sql_grammar.specs.Groups.{create_group}
+use Rattle.sql_print.specs.sql_grammar.specs.Sql.{grammar_of, rule}
+use Rattle.sql_print.specs.sql_grammar.specs.Statements.{statement as statement_part}
+use Rattle.sql_print.specs.sql_subset.specs.declared.stmt.CreateGroup as groups
+use Rattle.sql_print.specs.sql_subset.specs.declared.stmt.Stmt.{Stmt}
+use Rattle.sql_print.specs.sql_subset.specs.declared.stmt.Stmt.TheVariants as v
+use Rattle.sql_print.specs.sql_subset.specs.Groups.{group_of}
+use Rattle.sql_print.specs.sql_subset.specs.Lines.{Spells, kinds_in}
+use Rattle.sql_print.specs.sql_subset.specs.Statements.{create_of, statement_of}
+use Rattle.sql_print.specs.sql_phrases.specs.Reading.{begins}
+use Rattle.sql_print.specs.sql_words.specs.Words.{Word, joined, spaced}
 use Rattle.sql_print.specs.Groups.{group_words}
 use Rattle.sql_print.specs.Normal.{normal, normal_group}
 use Rattle.sql_print.specs.Printed.{printed}

@@ -1,32 +1,32 @@
 -- Tables that are put are read back.
 use Rattle.std.proofs.Common.{◌≡◌, ℕ, zero, suc, ◌≤◌, Bool, true, false, ◌&&◌, List, [], ◌∷◌, ◌++◌, length, drop, codes, Option, Some, None, refl, sym, ap, ◌∙◌, subst, arith, append_assoc, append-nil, ◌⊎◌, inl, inr}
 use Rattle.std.proofs.lemmas.Bool.Decides.{nat_tests}
-use Rattle.row_types.specs.declared.declaration.ColumnDeclaration.{ColumnDeclaration}
-use Rattle.row_types.specs.declared.declaration.ForeignKeyDeclaration.{ForeignKeyDeclaration}
-use Rattle.row_types.specs.declared.declaration.TableDeclaration.{TableDeclaration}
-use Rattle.sql_tokens.specs.declared.kind.Kind.{Kind}
-use Rattle.sql_tokens.specs.declared.kind.Kind.TheVariants as k
-use Rattle.sql_tokens.specs.Kinds.{is_kind}
-use Rattle.sql_tokens.specs.Words.{word_kind}
-use Rattle.sql_tokens.specs.Lexing.{Lexeme, lexeme}
-use Rattle.sql_grammar.specs.declared.rule.Rule.TheVariants as rules
-use Rattle.sql_grammar.specs.declared.test.Test.TheVariants.{Only, Name, Column}
-use Rattle.sql_grammar.specs.Tests.{passes}
-use Rattle.sql_grammar.specs.Grammar.{Grammar, Parts, Part, Reads, Named, Token, token, both, this, that, empty, named}
-use Rattle.sql_grammar.specs.Notation.{the, ◌▸◌}
-use Rattle.sql_grammar.specs.Sql.{rule}
-use Rattle.sql_grammar.specs.Tables.{after_key, attribute, cached_after_foreign, cached_after_key, cached_table, column_rest, foreign_rest, key_rest, table}
-use Rattle.sql_subset.specs.Lines.{kinds_in}
-use Rattle.sql_phrases.specs.declared.tables.CacheTable.{CacheTable}
-use Rattle.sql_phrases.specs.declared.tables.Element.{Element}
-use Rattle.sql_phrases.specs.declared.tables.Element.TheVariants as elements
-use Rattle.sql_phrases.specs.declared.tables.TableAttribute.{TableAttribute}
-use Rattle.sql_phrases.specs.declared.tables.TableAttribute.TheVariants as attributes
-use Rattle.sql_phrases.specs.Reading.{at_comma, begins, chained, name_of, past_one}
-use Rattle.sql_phrases.specs.Tables.{as_column, closes, column_of, element_of, elements_of, table_named, table_of, with_element}
-use Rattle.sql_phrases.proofs.Shrinking.{element_shrinks}
-use Rattle.sql_words.specs.Words.{Word, identifier_words, listed, more, name_words}
-use Rattle.sql_words.specs.Tables.{attribute_words, cascade_words, column_words, foreign_words, key_words, mark_words, table_words, type_words}
+use Rattle.sql_print.specs.row_types.specs.declared.declaration.ColumnDeclaration.{ColumnDeclaration}
+use Rattle.sql_print.specs.row_types.specs.declared.declaration.ForeignKeyDeclaration.{ForeignKeyDeclaration}
+use Rattle.sql_print.specs.row_types.specs.declared.declaration.TableDeclaration.{TableDeclaration}
+use Rattle.sql_print.specs.sql_tokens.specs.declared.kind.Kind.{Kind}
+use Rattle.sql_print.specs.sql_tokens.specs.declared.kind.Kind.TheVariants as k
+use Rattle.sql_print.specs.sql_tokens.specs.Kinds.{is_kind}
+use Rattle.sql_print.specs.sql_tokens.specs.Words.{word_kind}
+use Rattle.sql_print.specs.sql_tokens.specs.Lexing.{Lexeme, lexeme}
+use Rattle.sql_print.specs.sql_grammar.specs.declared.rule.Rule.TheVariants as rules
+use Rattle.sql_print.specs.sql_grammar.specs.declared.test.Test.TheVariants.{Only, Name, Column}
+use Rattle.sql_print.specs.sql_grammar.specs.Tests.{passes}
+use Rattle.sql_print.specs.sql_grammar.specs.Grammar.{Grammar, Parts, Part, Reads, Named, Token, token, both, this, that, empty, named}
+use Rattle.sql_print.specs.sql_grammar.specs.Notation.{the, ◌▸◌}
+use Rattle.sql_print.specs.sql_grammar.specs.Sql.{rule}
+use Rattle.sql_print.specs.sql_grammar.specs.Tables.{after_key, attribute, cached_after_foreign, cached_after_key, cached_table, column_rest, foreign_rest, key_rest, table}
+use Rattle.sql_print.specs.sql_subset.specs.Lines.{kinds_in}
+use Rattle.sql_print.specs.sql_phrases.specs.declared.tables.CacheTable.{CacheTable}
+use Rattle.sql_print.specs.sql_phrases.specs.declared.tables.Element.{Element}
+use Rattle.sql_print.specs.sql_phrases.specs.declared.tables.Element.TheVariants as elements
+use Rattle.sql_print.specs.sql_phrases.specs.declared.tables.TableAttribute.{TableAttribute}
+use Rattle.sql_print.specs.sql_phrases.specs.declared.tables.TableAttribute.TheVariants as attributes
+use Rattle.sql_print.specs.sql_phrases.specs.Reading.{at_comma, begins, chained, name_of, past_one}
+use Rattle.sql_print.specs.sql_phrases.specs.Tables.{as_column, closes, column_of, element_of, elements_of, table_named, table_of, with_element}
+use Rattle.sql_print.specs.sql_phrases.proofs.Shrinking.{element_shrinks}
+use Rattle.sql_print.specs.sql_words.specs.Words.{Word, identifier_words, listed, more, name_words}
+use Rattle.sql_print.specs.sql_words.specs.Tables.{attribute_words, cascade_words, column_words, foreign_words, key_words, mark_words, table_words, type_words}
 use Rattle.print_laws.proofs.Columns.{Behind, IsColumn, no_close, put_column}
 use Rattle.print_laws.proofs.Fine.{IsFine, fine_more}
 use Rattle.print_laws.proofs.Keys.{AreNames, IsForeignKey, foreign_key_words, put_foreign, put_key}

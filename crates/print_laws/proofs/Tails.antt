@@ -1,14 +1,14 @@
 -- Words that a grammar reads together with what is behind them, and what is read of them.
 use Rattle.std.proofs.Common.{◌≡◌, ℕ, suc, ◌≤◌, Bool, true, false, List, [], ◌∷◌, ◌++◌, length, codes, refl, sym, ap, ◌∙◌, subst, append_assoc, append-nil}
-use Rattle.sql_tokens.specs.declared.kind.Kind.{Kind}
-use Rattle.sql_tokens.specs.declared.kind.Kind.TheVariants.{Comma}
-use Rattle.sql_tokens.specs.Lexing.{Lexeme, lexeme}
-use Rattle.sql_grammar.specs.Grammar.{Grammar, Parts, Part, Reads}
-use Rattle.sql_grammar.specs.Sql.{rule}
-use Rattle.sql_subset.specs.Lines.{kinds_in}
-use Rattle.sql_phrases.specs.Reading.{as_list, at_comma, chained, with_last}
-use Rattle.sql_phrases.proofs.Chains.{Chaining, chain_ends, chain_more}
-use Rattle.sql_words.specs.Words.{Word, listed, more}
+use Rattle.sql_print.specs.sql_tokens.specs.declared.kind.Kind.{Kind}
+use Rattle.sql_print.specs.sql_tokens.specs.declared.kind.Kind.TheVariants.{Comma}
+use Rattle.sql_print.specs.sql_tokens.specs.Lexing.{Lexeme, lexeme}
+use Rattle.sql_print.specs.sql_grammar.specs.Grammar.{Grammar, Parts, Part, Reads}
+use Rattle.sql_print.specs.sql_grammar.specs.Sql.{rule}
+use Rattle.sql_print.specs.sql_subset.specs.Lines.{kinds_in}
+use Rattle.sql_print.specs.sql_phrases.specs.Reading.{as_list, at_comma, chained, with_last}
+use Rattle.sql_print.specs.sql_phrases.proofs.Chains.{Chaining, chain_ends, chain_more}
+use Rattle.sql_print.specs.sql_words.specs.Words.{Word, listed, more}
 use Rattle.print_laws.proofs.Fine.{IsFine, fine_more}
 use Rattle.print_laws.proofs.Keywords.{comma_word}
 use Rattle.print_laws.proofs.Lexed.{Lexes, begun_by, tokens}

@@ -2,26 +2,26 @@
 use Rattle.std.proofs.Common.{◌≡◌, ℕ, zero, suc, ◌+◌, ◌≤◌, Bool, true, false, cond, ◌&&◌, ◌||◌, eqb, leb, ltb, List, [], ◌∷◌, ◌++◌, length, drop, Option, refl, sym, ap, ◌∙◌, subst, arith}
 use Rattle.std.proofs.lemmas.Bool.Decides.{nat_tests}
 use Rattle.std.specs.Char.{to_ascii_uppercase}
-use Rattle.tier_base.specs.Names.{folded, is_identifier, is_name_at}
-use Rattle.expressions.specs.declared.expression.Arithmetic.TheVariants as arithmetic
-use Rattle.row_types.specs.Printing.{quoted}
-use Rattle.sql_query.specs.declared.literal.Literal.TheVariants as literals
-use Rattle.sql_query.specs.Trees.{ExpressionTree, ConditionTree, Constant, Column, Binary, Compared, Missing, Between, Among, Not, All, Any}
-use Rattle.sql_tokens.specs.declared.kind.Kind.{Kind}
-use Rattle.sql_tokens.specs.declared.kind.Kind.TheVariants as k
-use Rattle.sql_tokens.specs.Kinds.{code, is_kind}
-use Rattle.sql_tokens.specs.Lexing.{Lexeme}
-use Rattle.sql_grammar.specs.declared.rule.Rule.TheVariants as rules
-use Rattle.sql_grammar.specs.declared.test.Test.TheVariants.{Compare, Digits, Only, Name, Sign}
-use Rattle.sql_grammar.specs.Tests.{passes}
-use Rattle.sql_grammar.specs.Grammar.{Grammar, Either, Empty, Named, Parts, Part, Token}
-use Rattle.sql_grammar.specs.Notation.{choice, optional, the, ◌▸◌}
-use Rattle.sql_grammar.specs.Queries.{conj, exprs, factor, filtered as filter_part, term, within as within_rule}
-use Rattle.sql_phrases.specs.Reading.{as_number, at_comma, begins, column_of, first_kind, first_text, literal_of, name_from, numeral_of, past_column, unquoted, with_last}
-use Rattle.sql_phrases.specs.Expressions.{added, at_sign, at_star, expression_of, expressions_of, factor_of, multiplied, term_of}
-use Rattle.sql_phrases.specs.Conditions.{at_and, at_or, both, condition_by, condition_of, conjunction_by, either, filter_of, missing, predicate_of, test_of, tested, within}
-use Rattle.sql_phrases.proofs.Shrinking.{conjunction_shrinks, expression_shrinks, factor_shrinks, predicate_shrinks, term_shrinks}
-use Rattle.sql_words.specs.declared.condition.Strength.TheVariants.{Loose, Middle, Tight}
+use Rattle.sql_print.specs.tier_base.specs.Names.{folded, is_identifier, is_name_at}
+use Rattle.sql_print.specs.expressions.specs.declared.expression.Arithmetic.TheVariants as arithmetic
+use Rattle.sql_print.specs.row_types.specs.Printing.{quoted}
+use Rattle.sql_print.specs.sql_query.specs.declared.literal.Literal.TheVariants as literals
+use Rattle.sql_print.specs.sql_query.specs.Trees.{ExpressionTree, ConditionTree, Constant, Column, Binary, Compared, Missing, Between, Among, Not, All, Any}
+use Rattle.sql_print.specs.sql_tokens.specs.declared.kind.Kind.{Kind}
+use Rattle.sql_print.specs.sql_tokens.specs.declared.kind.Kind.TheVariants as k
+use Rattle.sql_print.specs.sql_tokens.specs.Kinds.{code, is_kind}
+use Rattle.sql_print.specs.sql_tokens.specs.Lexing.{Lexeme}
+use Rattle.sql_print.specs.sql_grammar.specs.declared.rule.Rule.TheVariants as rules
+use Rattle.sql_print.specs.sql_grammar.specs.declared.test.Test.TheVariants.{Compare, Digits, Only, Name, Sign}
+use Rattle.sql_print.specs.sql_grammar.specs.Tests.{passes}
+use Rattle.sql_print.specs.sql_grammar.specs.Grammar.{Grammar, Either, Empty, Named, Parts, Part, Token}
+use Rattle.sql_print.specs.sql_grammar.specs.Notation.{choice, optional, the, ◌▸◌}
+use Rattle.sql_print.specs.sql_grammar.specs.Queries.{conj, exprs, factor, filtered as filter_part, term, within as within_rule}
+use Rattle.sql_print.specs.sql_phrases.specs.Reading.{as_number, at_comma, begins, column_of, first_kind, first_text, literal_of, name_from, numeral_of, past_column, unquoted, with_last}
+use Rattle.sql_print.specs.sql_phrases.specs.Expressions.{added, at_sign, at_star, expression_of, expressions_of, factor_of, multiplied, term_of}
+use Rattle.sql_print.specs.sql_phrases.specs.Conditions.{at_and, at_or, both, condition_by, condition_of, conjunction_by, either, filter_of, missing, predicate_of, test_of, tested, within}
+use Rattle.sql_print.specs.sql_phrases.proofs.Shrinking.{conjunction_shrinks, expression_shrinks, factor_shrinks, predicate_shrinks, term_shrinks}
+use Rattle.sql_print.specs.sql_words.specs.declared.condition.Strength.TheVariants.{Loose, Middle, Tight}
 use Rattle.print_laws.proofs.Conditions.{IsCondition, levels}
 use Rattle.print_laws.proofs.Expressions.{IsFactor, IsSum, IsTerm}
 use Rattle.print_laws.proofs.Fine.{IsFineText}

@@ -3,15 +3,15 @@ use Rattle.std.proofs.Common.{◌≡◌, ℕ, ◌<◌, Bool, true, false, not, �
 use Rattle.std.proofs.lemmas.Bool.Decides.{nat_tests}
 use Rattle.std.specs.List.{list_all}
 use Rattle.std.specs.Char.{is_ascii_digit}
-use Rattle.tier_base.specs.Names.{is_word_byte, is_identifier, begins_with_letter, is_among, is_reserved_word, spells}
-use Rattle.sql_tokens.specs.declared.kind.Kind.{Kind}
-use Rattle.sql_tokens.specs.declared.kind.Kind.TheVariants.{Identifier, Zero, One, Two, Three, Integer}
-use Rattle.sql_tokens.specs.Kinds.{code, is_kind}
-use Rattle.sql_tokens.specs.Words.{word_kind, named, keywords, number_kind}
-use Rattle.sql_grammar.specs.declared.test.Test.{Test}
-use Rattle.sql_grammar.specs.declared.test.Test.TheVariants.{Name, Whole, Digits}
-use Rattle.sql_grammar.specs.Tests.{passes, low_of, high_of}
-use Rattle.sql_grammar.proofs.Lists.{and_left, and_right}
+use Rattle.sql_print.specs.tier_base.specs.Names.{is_word_byte, is_identifier, begins_with_letter, is_among, is_reserved_word, spells}
+use Rattle.sql_print.specs.sql_tokens.specs.declared.kind.Kind.{Kind}
+use Rattle.sql_print.specs.sql_tokens.specs.declared.kind.Kind.TheVariants.{Identifier, Zero, One, Two, Three, Integer}
+use Rattle.sql_print.specs.sql_tokens.specs.Kinds.{code, is_kind}
+use Rattle.sql_print.specs.sql_tokens.specs.Words.{word_kind, named, keywords, number_kind}
+use Rattle.sql_print.specs.sql_grammar.specs.declared.test.Test.{Test}
+use Rattle.sql_print.specs.sql_grammar.specs.declared.test.Test.TheVariants.{Name, Whole, Digits}
+use Rattle.sql_print.specs.sql_grammar.specs.Tests.{passes, low_of, high_of}
+use Rattle.sql_print.specs.sql_grammar.proofs.Lists.{and_left, and_right}
 
 -- a word among none of the first keywords
 named_past : (es fs : List (List ℕ × Kind)) (w : List ℕ) → is_among (map (λ e. e.0) es) w ≡ false → named (es ++ fs) w ≡ named fs w

@@ -1,29 +1,29 @@
 -- Writes that are put are read back.
 use Rattle.std.proofs.Common.{◌≡◌, ℕ, false, List, [], ◌∷◌, ◌++◌, drop, codes, Option, Some, None, refl, sym, ap, append_assoc}
-use Rattle.sql_query.specs.declared.write.Assignment.{Assignment}
-use Rattle.sql_query.specs.declared.write.Delete.{Delete}
-use Rattle.sql_query.specs.declared.write.Insert.{Insert}
-use Rattle.sql_query.specs.declared.write.Update.{Update}
-use Rattle.sql_query.specs.declared.write.Write.{Write}
-use Rattle.sql_query.specs.declared.write.Write.TheVariants as writes
-use Rattle.sql_query.specs.Trees.{ConditionTree}
-use Rattle.sql_tokens.specs.declared.kind.Kind.{Kind}
-use Rattle.sql_tokens.specs.declared.kind.Kind.TheVariants as k
-use Rattle.sql_tokens.specs.Kinds.{is_kind}
-use Rattle.sql_tokens.specs.Words.{word_kind}
-use Rattle.sql_tokens.specs.Lexing.{Lexeme}
-use Rattle.sql_grammar.specs.declared.rule.Rule.TheVariants as rules
-use Rattle.sql_grammar.specs.Grammar.{Grammar, Named, Part, token, both, this, that, empty, named, again, enough}
-use Rattle.sql_grammar.specs.Notation.{optional, repeated, the, ◌▸◌}
-use Rattle.sql_grammar.specs.Queries.{exprs, filtered as filter_part}
-use Rattle.sql_grammar.specs.Writes.{assign as assign_part}
-use Rattle.sql_phrases.specs.Reading.{identifiers_of, name_from, name_of}
-use Rattle.sql_phrases.specs.Expressions.{expression_of, expressions_of}
-use Rattle.sql_phrases.specs.Conditions.{filter_of}
-use Rattle.sql_phrases.specs.Writes.{as_columns, as_delete, as_insert, as_update, assigned, assignment_of, assignments_of, delete_named, delete_of, deleted, insert_columned, insert_columns_of, insert_named, insert_of, inserted, update_named, update_of, update_set, updated, write_of}
-use Rattle.sql_phrases.proofs.Shrinking.{assignment_shrinks}
-use Rattle.sql_words.specs.Words.{Word, identifier_words, listed, name_words}
-use Rattle.sql_words.specs.Trees.{expression_words, filter_words}
+use Rattle.sql_print.specs.sql_query.specs.declared.write.Assignment.{Assignment}
+use Rattle.sql_print.specs.sql_query.specs.declared.write.Delete.{Delete}
+use Rattle.sql_print.specs.sql_query.specs.declared.write.Insert.{Insert}
+use Rattle.sql_print.specs.sql_query.specs.declared.write.Update.{Update}
+use Rattle.sql_print.specs.sql_query.specs.declared.write.Write.{Write}
+use Rattle.sql_print.specs.sql_query.specs.declared.write.Write.TheVariants as writes
+use Rattle.sql_print.specs.sql_query.specs.Trees.{ConditionTree}
+use Rattle.sql_print.specs.sql_tokens.specs.declared.kind.Kind.{Kind}
+use Rattle.sql_print.specs.sql_tokens.specs.declared.kind.Kind.TheVariants as k
+use Rattle.sql_print.specs.sql_tokens.specs.Kinds.{is_kind}
+use Rattle.sql_print.specs.sql_tokens.specs.Words.{word_kind}
+use Rattle.sql_print.specs.sql_tokens.specs.Lexing.{Lexeme}
+use Rattle.sql_print.specs.sql_grammar.specs.declared.rule.Rule.TheVariants as rules
+use Rattle.sql_print.specs.sql_grammar.specs.Grammar.{Grammar, Named, Part, token, both, this, that, empty, named, again, enough}
+use Rattle.sql_print.specs.sql_grammar.specs.Notation.{optional, repeated, the, ◌▸◌}
+use Rattle.sql_print.specs.sql_grammar.specs.Queries.{exprs, filtered as filter_part}
+use Rattle.sql_print.specs.sql_grammar.specs.Writes.{assign as assign_part}
+use Rattle.sql_print.specs.sql_phrases.specs.Reading.{identifiers_of, name_from, name_of}
+use Rattle.sql_print.specs.sql_phrases.specs.Expressions.{expression_of, expressions_of}
+use Rattle.sql_print.specs.sql_phrases.specs.Conditions.{filter_of}
+use Rattle.sql_print.specs.sql_phrases.specs.Writes.{as_columns, as_delete, as_insert, as_update, assigned, assignment_of, assignments_of, delete_named, delete_of, deleted, insert_columned, insert_columns_of, insert_named, insert_of, inserted, update_named, update_of, update_set, updated, write_of}
+use Rattle.sql_print.specs.sql_phrases.proofs.Shrinking.{assignment_shrinks}
+use Rattle.sql_print.specs.sql_words.specs.Words.{Word, identifier_words, listed, name_words}
+use Rattle.sql_print.specs.sql_words.specs.Trees.{expression_words, filter_words}
 use Rattle.sql_print.specs.Queries.{assignment_words, insert_column_words, write_rest_words, write_words}
 use Rattle.print_laws.proofs.Conditions.{Closes}
 use Rattle.print_laws.proofs.Expressions.{IsSum, Stops, put_expression, put_expressions, stops_word}

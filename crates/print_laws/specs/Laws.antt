@@ -1,18 +1,18 @@
 -- What is printed is read back.
 
 use Rattle.std.specs.Prelude.{ℕ, ◌≡◌, List, ◌++◌, codes, Result, Ok, Err}
-use Rattle.row_types.specs.declared.declaration.TableDeclaration.{TableDeclaration}
-use Rattle.sql_query.specs.declared.write.Write.{Write}
-use Rattle.sql_subset.specs.declared.request.ConsoleRequest.TheVariants.{CreateTable, Writes}
-use Rattle.sql_subset.specs.declared.request.Line.TheVariants.{Console, Session}
-use Rattle.sql_subset.specs.declared.request.ParseError.{ParseError}
-use Rattle.sql_subset.specs.declared.request.ParseError.TheVariants as errors
-use Rattle.sql_subset.specs.declared.request.Request.TheVariants.{Statement}
-use Rattle.sql_subset.specs.declared.stmt.CreateGroup as groups
-use Rattle.sql_subset.specs.declared.stmt.Stmt.{Stmt}
-use Rattle.sql_subset.specs.declared.stmt.Stmt.TheVariants as statements
-use Rattle.sql_subset.specs.Lines.{Means, Parses, Says, Spells}
-use Rattle.sql_words.specs.NormalTables.{normal_table}
+use Rattle.sql_print.specs.row_types.specs.declared.declaration.TableDeclaration.{TableDeclaration}
+use Rattle.sql_print.specs.sql_query.specs.declared.write.Write.{Write}
+use Rattle.sql_print.specs.sql_subset.specs.declared.request.ConsoleRequest.TheVariants.{CreateTable, Writes}
+use Rattle.sql_print.specs.sql_subset.specs.declared.request.Line.TheVariants.{Console, Session}
+use Rattle.sql_print.specs.sql_subset.specs.declared.request.ParseError.{ParseError}
+use Rattle.sql_print.specs.sql_subset.specs.declared.request.ParseError.TheVariants as errors
+use Rattle.sql_print.specs.sql_subset.specs.declared.request.Request.TheVariants.{Statement}
+use Rattle.sql_print.specs.sql_subset.specs.declared.stmt.CreateGroup as groups
+use Rattle.sql_print.specs.sql_subset.specs.declared.stmt.Stmt.{Stmt}
+use Rattle.sql_print.specs.sql_subset.specs.declared.stmt.Stmt.TheVariants as statements
+use Rattle.sql_print.specs.sql_subset.specs.Lines.{Means, Parses, Says, Spells}
+use Rattle.sql_print.specs.sql_words.specs.NormalTables.{normal_table}
 use Rattle.sql_print.specs.Normal.{normal, normal_group}
 use Rattle.sql_print.specs.Printed.{printed, printed_table, printed_writes}
 

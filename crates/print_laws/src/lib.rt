@@ -2,3 +2,5 @@
 #![tactic(auto)]
 
 pub mod law;
+
+pub use sql_print::{numbers, row_types, sql_subset, tier_base};

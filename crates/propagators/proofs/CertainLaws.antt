@@ -1,13 +1,13 @@
 -- Calls of the backing database keep a disk certain.
-use Rattle.std.proofs.Common.{◌≡◌, ℕ, ◌≤◌, Option, Some, List, [], ◌++◌, refl, sym, ap, subst, ◌∙◌, inl, inr, append_assoc}
+use Rattle.std.proofs.Common.{◌≡◌, ℕ, Option, Some, List, [], ◌++◌, refl, sym, ap, subst, ◌∙◌, inl, inr, append_assoc}
 use Rattle.std.proofs.lemmas.Bool.{cases_lt}
 use Rattle.std.proofs.lemmas.List.{append-nil}
 use Rattle.table_state.specs.declared.history.Entry.{Entry}
-use Rattle.outside.specs.Calls.{BankCall, BankGoesOn, BankTold, Certain, IsBetween, Lengthens, MayGrow}
-use Rattle.outside.specs.Holding.{Held, Slots}
+use Rattle.outside.specs.Calls.{BankCall, BankGoesOn, BankTold, IsBetween, Lengthens, MayGrow}
+use Rattle.outside.specs.Holding.{Held}
 use Rattle.outside.specs.Sites.{SiteState}
 use Rattle.outside.proofs.Moments.{now_came, same_held, told_then}
-use Rattle.propagators.specs.Certainty.{KeepsCertain, StaysCertain}
+use Rattle.propagators.specs.Certainty.{KeepsCertain}
 
 abbrev pub HistoryIsCertain : {D : Type 0} → (D → SiteState) → (D → ℕ → Held → Type 0) → Type 0
 HistoryIsCertain {D = D} state possible = (d : D) (o p : Held) → (state d).held ≡ Some o → possible d (state d).moment p → p.history ≡ o.history

@@ -1,7 +1,6 @@
 -- The events of a round as events of a pipeline.
-use Rattle.std.proofs.Common.{◌≡◌, List, [], ◌∷◌, ◌++◌, Bool, true, false, cond, ◌&&◌, not, Option, Some, None, refl, sym, ◌∙◌, ap, subst}
+use Rattle.std.proofs.Common.{◌≡◌, List, [], ◌∷◌, ◌++◌, Bool, true, false, cond, ◌&&◌, not, Option, Some, None, refl, ◌∙◌, ap}
 use Rattle.std.specs.Option.{IsSome}
-use Rattle.std.specs.List.{list_all}
 use Rattle.tier_base.specs.declared.number.TableId.{TableId}
 use Rattle.table_defs.specs.declared.definition.TableDef.{TableDef}
 use Rattle.table_state.specs.declared.history.Entry.{Entry}
@@ -11,10 +10,10 @@ use Rattle.table_state.specs.declared.operation.Op.{Op}
 use Rattle.table_state.specs.Histories.{entry_of, has_ticket, state_of}
 use Rattle.table_state.specs.Operations.{table_of}
 use Rattle.table_state.specs.Tables.{TableState}
-use Rattle.order_laws.specs.Commits.{pending, is_pending}
+use Rattle.order_laws.specs.Commits.{pending}
 use Rattle.order_laws.specs.Sides.{are_off}
 use Rattle.outside.specs.Others.{are_on_shared, is_shared}
-use Rattle.order_laws.specs.Events.{Event, Came, Follows, IsNext, IsSettled, Left, Others, OthersMayCome}
+use Rattle.order_laws.specs.Events.{Event, Came, Follows, IsNext, Left, Others}
 use Rattle.propagators.specs.Rounds.{AreUnshared, Leads}
 
 record Leaves (history : List Entry) : Type 0 where

@@ -1,5 +1,5 @@
 -- What one call of the bank does for a round of propagation.
-use Rattle.std.proofs.Common.{◌≡◌, ℕ, zero, ◌≤◌, ◌<◌, ◌⊎◌, List, [], ◌∷◌, ◌++◌, Bool, true, false, ◌||◌, drop, length, Option, Some, None, refl, sym, ◌∙◌, ap, subst, arith, inl, inr, get_or, unwrap_or, append_assoc}
+use Rattle.std.proofs.Common.{◌≡◌, ℕ, ◌≤◌, ◌<◌, ◌⊎◌, List, [], ◌∷◌, ◌++◌, Bool, true, false, ◌||◌, drop, length, Option, Some, None, refl, sym, ◌∙◌, ap, subst, arith, inl, inr, get_or, unwrap_or, append_assoc}
 use Rattle.std.specs.Prelude.{Ok, Err}
 use Rattle.std.specs.List.{Contains}
 use Rattle.std.specs.Option.{IsSome}
@@ -15,7 +15,7 @@ use Rattle.table_state.specs.Histories.{entry_of, has_ticket, is_of}
 use Rattle.outside.specs.Bank.{Comes}
 use Rattle.outside.specs.Calls.{BankCall, Told}
 use Rattle.outside.specs.Holding.{Held}
-use Rattle.outside.specs.Others.{AreOthers, Around}
+use Rattle.outside.specs.Others.{AreOthers}
 use Rattle.order_laws.specs.Events.{Event, Came, Left, Others}
 use Rattle.propagators.specs.declared.rounds.RoundFault.{RoundFault}
 use Rattle.propagators.specs.declared.rounds.RoundFault.TheVariants as stop

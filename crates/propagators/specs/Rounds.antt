@@ -9,7 +9,6 @@ use Rattle.tier_base.specs.declared.number.TableId.{TableId}
 use Rattle.table_state.specs.declared.history.Entry.{Entry}
 use Rattle.table_state.specs.declared.history.Entry.TheVariants.{Foreign}
 use Rattle.table_state.specs.declared.history.Sealed.{Sealed}
-use Rattle.table_state.specs.declared.operation.Op.{Op}
 use Rattle.table_state.specs.Copies.{is_one_of}
 use Rattle.table_state.specs.Histories.{entry_of, has_ticket, state_of}
 use Rattle.outside.specs.Bank.{CanFollow, Comes, Grows}

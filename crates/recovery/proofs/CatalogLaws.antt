@@ -1,5 +1,5 @@
 -- What keeps the journal the tier's where its catalog changes.
-use Rattle.std.proofs.Common.{◌≡◌, ℕ, ◌+◌, ◌≤◌, Bool, true, false, cond, not, ◌&&◌, ◌||◌, Option, Some, None, List, [], ◌∷◌, ◌++◌, length, map, refl, sym, ap, subst, ◌∙◌, arith}
+use Rattle.std.proofs.Common.{◌≡◌, ℕ, ◌+◌, Bool, true, false, cond, not, ◌&&◌, ◌||◌, None, List, [], ◌∷◌, ◌++◌, length, refl, sym, ap, subst, ◌∙◌}
 use Rattle.std.specs.List.{list_all, list_any}
 use Rattle.std.specs.Option.{option_and_then}
 use Rattle.std.proofs.lemmas.List.Folds.{list_any-append}
@@ -25,7 +25,7 @@ use Rattle.cache_tier.specs.DefineSteps.{with_new_group}
 use Rattle.cache_tier.specs.Definitions.{IsTreeOf, defined_by, definition_names, new_group, placed_tables}
 use Rattle.cache_tier.specs.Groups.{Group, covers, definitions_of, is_defined_on, is_read_only, is_table_of, is_writethrough}
 use Rattle.cache_tier.specs.Journals.{Defines, Journal}
-use Rattle.cache_tier.specs.StandingBetween.{HasNoTableOf, IsCatalogued, live_groups_of}
+use Rattle.cache_tier.specs.StandingBetween.{IsCatalogued, live_groups_of}
 use Rattle.cache_tier.specs.StandingBetween as between
 use Rattle.cache_tier.specs.TierStates.{Tier}
 use Rattle.cache_tier.specs.Worlds.{World}

@@ -15,7 +15,7 @@ use Rattle.sql_subset.specs.declared.stmt.CreateGroup.{CreateGroup}
 use Rattle.sql_subset.specs.declared.stmt.GroupKind.{GroupKind}
 use Rattle.sql_subset.specs.declared.stmt.GroupKind.TheVariants.{ReadOnly, AsynchronousWritethrough, SynchronousWritethrough, UserManaged}
 use Rattle.sql_subset.specs.declared.stmt.RefreshState.{RefreshState}
-use Rattle.recovery_laws.specs.Notes.{Catalog, FitAll, Fits, Note, mark_of, recall, recall_all, told, without}
+use Rattle.recovery_laws.specs.Notes.{Catalog, FitAll, Fits, mark_of, recall, recall_all, told, without}
 use Rattle.cache_tier.specs.AlterSteps.{with_state}
 use Rattle.cache_tier.specs.Commits.{tables_of}
 use Rattle.cache_tier.specs.Definitions.{AreChildrenOf, IsTreeOf, Placed, column_fault, definition_names, first_fault, first_unknown, is_read_only_kind, placed_tables, table_names}

@@ -16,7 +16,7 @@ use Rattle.cache_tier.specs.Journals.{Commits, Defines, Drops, JournalEntry, Mar
 use Rattle.cache_tier.specs.StandingBetween.{IsCatalogued}
 use Rattle.cache_tier.specs.TierStates.{Settings, Tier, opened, with_group}
 use Rattle.cache_tier.specs.Worlds.{World}
-use Rattle.recovery.specs.Journalled.{AreAlike, CrashLeaves, IsAlike, IsJournalled}
+use Rattle.recovery.specs.Journalled.{AreAlike, CrashLeaves, IsJournalled}
 use Rattle.recovery.specs.Recalling.{IsDefined, Recalls, RecallsAll, group_of, notes_of, with_loaded}
 use Rattle.recovery.proofs.CatalogLaws.{alike_covers, alike_definitions, alike_last}
 use Rattle.recovery.proofs.DroppedLaws.{alike_without}

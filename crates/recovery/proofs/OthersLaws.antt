@@ -19,7 +19,7 @@ use Rattle.order_laws.specs.Standing.{live_tables}
 use Rattle.order_laws.proofs.NextLaws.{all_defined}
 use Rattle.order_laws.proofs.PendingLaws.{pending_foreign}
 use Rattle.order_laws.proofs.TruthLaws.{both_true, same_some}
-use Rattle.recovery_laws.specs.Crashes.{Stands, StandsOn, others, with_entry}
+use Rattle.recovery_laws.specs.Crashes.{Stands, others, with_entry}
 use Rattle.recovery_laws.specs.Crashes as crash
 use Rattle.recovery_laws.specs.Notes.{Note, groups_of, log_in}
 use Rattle.recovery_laws.specs.Matching.{IsMatched}

@@ -86,7 +86,7 @@ more_commits (Drops name ∷ xs) ys s a = more_commits xs ys s a
 more_commits (SetsState name state ∷ xs) ys s a = more_commits xs ys s a
 more_commits (SetsLoaded name flag ∷ xs) ys s a = more_commits xs ys s a
 
-found_longer : (t : ℕ) (h more : List Entry) (s : Sealed) → found t h ≡ Some s → found t (h ++ more) ≡ Some s
+pub found_longer : (t : ℕ) (h more : List Entry) (s : Sealed) → found t h ≡ Some s → found t (h ++ more) ≡ Some s
 found_longer t [] more s e = Prim.cc
 found_longer t (Definition def ∷ h) more s e = found_longer t h more s e
 found_longer t (Foreign ops ∷ h) more s e = found_longer t h more s e

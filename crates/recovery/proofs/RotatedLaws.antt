@@ -16,7 +16,7 @@ use Rattle.order_laws.proofs.TruthLaws.{same_some}
 use Rattle.order_laws.proofs.WholeLaws.{stand_begins, stand_group}
 use Rattle.recovery_laws.specs.Crashes.{Among, Event, Stands, StandsOn, with_flushed}
 use Rattle.recovery_laws.specs.Crashes as crash
-use Rattle.recovery_laws.specs.Notes.{Catalog, Commit, Define, Flag, Named, Note, catalog_of, commits_in, found, groups_of, log_in, next_of}
+use Rattle.recovery_laws.specs.Notes.{Commit, Define, Flag, Named, Note, catalog_of, commits_in, found, groups_of, log_in, next_of}
 use Rattle.recovery_laws.specs.Rotations.{AllLater, definitions, flags_of, rotated}
 use Rattle.recovery_laws.proofs.CrashLaws.{event_keeps, more_commits, rotation_holds}
 use Rattle.recovery_laws.proofs.MatchLaws.{matched_stands}

@@ -19,7 +19,7 @@ use Rattle.order_laws.specs.Standing.{live_tables}
 use Rattle.order_laws.proofs.NextLaws.{all_defined}
 use Rattle.order_laws.proofs.PendingLaws.{is_not, may_come, pending_came, pending_foreign, pending_there}
 use Rattle.order_laws.proofs.TruthLaws.{same_some}
-use Rattle.recovery_laws.specs.Crashes.{Stands, StandsOn, comes, others, with_entry}
+use Rattle.recovery_laws.specs.Crashes.{Stands, comes, others, with_entry}
 use Rattle.recovery_laws.specs.Crashes as crash
 use Rattle.recovery_laws.specs.Notes.{Note, groups_of, log_in, next_of}
 use Rattle.recovery_laws.specs.Matching.{IsMatched}

@@ -1,13 +1,13 @@
 -- What a crash may leave: along any events, and over a list of requests.
 use Rattle.std.proofs.Common.{◌≡◌, ◌⊎◌, inl, inr, ℕ, ◌≤◌, ◌<◌, max, List, [], ◌∷◌, ◌++◌, map, Bool, true, false, ◌||◌, not, cond, nat_eq, Some, refl, sym, ◌∙◌, ap, subst, arith, append_assoc, append-nil, eqb-true}
 use Rattle.std.proofs.lemmas.List.{map-append}
-use Rattle.table_state.specs.declared.history.Entry.{Entry}
-use Rattle.table_state.specs.declared.history.Entry.TheVariants.{Definition, Foreign, Own}
-use Rattle.table_state.specs.declared.history.Sealed.{Sealed}
-use Rattle.table_state.specs.declared.operation.Op.{Op}
-use Rattle.table_state.specs.Tables.{TableState}
-use Rattle.table_state.specs.Histories.{entry_of, has_ticket}
-use Rattle.table_state.specs.Operations.{applied_all}
+use Rattle.order_laws.specs.table_state.specs.declared.history.Entry.{Entry}
+use Rattle.order_laws.specs.table_state.specs.declared.history.Entry.TheVariants.{Definition, Foreign, Own}
+use Rattle.order_laws.specs.table_state.specs.declared.history.Sealed.{Sealed}
+use Rattle.order_laws.specs.table_state.specs.declared.operation.Op.{Op}
+use Rattle.order_laws.specs.table_state.specs.Tables.{TableState}
+use Rattle.order_laws.specs.table_state.specs.Histories.{entry_of, has_ticket}
+use Rattle.order_laws.specs.table_state.specs.Operations.{applied_all}
 use Rattle.order_laws.specs.Commits.{AreOps, HasOps, MayCome, conflicting, is_pending, pending, virtual_state}
 use Rattle.order_laws.specs.Sides.{IsClosed}
 use Rattle.order_laws.specs.Standing.{AreClosed}
@@ -15,7 +15,7 @@ use Rattle.order_laws.specs.Commits.{NoneConflicts}
 use Rattle.recovery_laws.specs.Notes.{Catalog, Commit, Define, Drop, FitAll, Fits, Flag, Mark, Named, Note, Number, Prepare, catalog_of, commits_in, empty_catalog, found, groups_of, if_stands, is_for, is_noted, live_groups, log_in, mark_of, next_of, only_found, recall, recall_all, told}
 use Rattle.recovery_laws.specs.Matching.{IsMatched}
 use Rattle.recovery_laws.specs.Rotations.{definitions, flags_of, rotated}
-use Rattle.tier_base.specs.declared.number.Ticket.{Ticket}
+use Rattle.order_laws.specs.tier_base.specs.declared.number.Ticket.{Ticket}
 use Rattle.std.specs.List.{filter}
 use Rattle.recovery_laws.specs.Crashes.{Among, AreHeld, AtMoment, CrashClause, CrashRun, NoneThere, Stands, StandsOn, Event, IsLeft, NoneHeld, Over, Path, World, applies, comes, commits, defines, done, drops, flags, flushes, given, numbers, others, passes, prepares, rotates, tables, then, with_commit, with_entry, with_flushed}
 use Rattle.recovery_laws.proofs.FoldLaws.{next_grows, noted_below}

@@ -4,17 +4,17 @@ use Rattle.std.specs.List.{filter, list_any}
 use Rattle.std.proofs.Math.Nat.{le-max_right}
 use Rattle.std.proofs.lemmas.Bool.{leb-true}
 use Rattle.std.proofs.lemmas.List.Elements.{filter-append}
-use Rattle.tier_base.specs.declared.number.TableId.{TableId}
-use Rattle.table_defs.specs.declared.definition.TableDef.{TableDef}
-use Rattle.table_state.specs.declared.history.Entry.{Entry}
-use Rattle.table_state.specs.declared.history.Entry.TheVariants.{Definition, Foreign, Own}
-use Rattle.table_state.specs.declared.history.Sealed.{Sealed}
-use Rattle.table_state.specs.declared.operation.Op.{Op}
-use Rattle.table_state.specs.Tables.{TableState}
-use Rattle.table_state.specs.Histories.{entry_of, has_ticket, state_of}
-use Rattle.table_state.specs.Operations.{applied_all}
-use Rattle.table_state.proofs.HistoryLaws.{has_ticket-append}
-use Rattle.order_laws.specs.Commits.{IsInLog, LiveGroup, MayCome, RiseBetween, conflicting, in_order, is_of_group, is_op_on, is_pending, of_group, pending}
+use Rattle.order_laws.specs.tier_base.specs.declared.number.TableId.{TableId}
+use Rattle.order_laws.specs.table_defs.specs.declared.definition.TableDef.{TableDef}
+use Rattle.order_laws.specs.table_state.specs.declared.history.Entry.{Entry}
+use Rattle.order_laws.specs.table_state.specs.declared.history.Entry.TheVariants.{Definition, Foreign, Own}
+use Rattle.order_laws.specs.table_state.specs.declared.history.Sealed.{Sealed}
+use Rattle.order_laws.specs.table_state.specs.declared.operation.Op.{Op}
+use Rattle.order_laws.specs.table_state.specs.Tables.{TableState}
+use Rattle.order_laws.specs.table_state.specs.Histories.{entry_of, has_ticket, state_of}
+use Rattle.order_laws.specs.table_state.specs.Operations.{applied_all}
+use Rattle.order_laws.specs.table_state.proofs.HistoryLaws.{has_ticket-append}
+use Rattle.order_laws.specs.Commits.{IsInLog, LiveGroup, MayCome, RiseBetween, conflicting, in_order, is_op_on, is_pending, of_group, pending}
 use Rattle.order_laws.specs.Sides.{IsClosed, are_off, are_on}
 use Rattle.order_laws.specs.Standing.{AreClosed, PendingIsLive, Stand, all_off, live_tables, progress_of}
 use Rattle.order_laws.specs.Commits.{NoneConflicts}

@@ -1,9 +1,9 @@
 -- What the entries fold to, and that a matching pair stands.
 use Rattle.std.proofs.Common.{◌≡◌, ◌⊎◌, inl, inr, ℕ, ◌+◌, ◌≤◌, ◌<◌, List, [], ◌∷◌, ◌++◌, Bool, true, false, ◌||◌, cond, nat_eq, Option, Some, None, refl, sym, ◌∙◌, ap, subst, arith, eqb-true}
-use Rattle.table_state.specs.declared.history.Entry.{Entry}
-use Rattle.table_state.specs.declared.history.Entry.TheVariants.{Definition, Foreign, Own}
-use Rattle.table_state.specs.declared.history.Sealed.{Sealed}
-use Rattle.table_state.specs.Histories.{has_ticket}
+use Rattle.order_laws.specs.table_state.specs.declared.history.Entry.{Entry}
+use Rattle.order_laws.specs.table_state.specs.declared.history.Entry.TheVariants.{Definition, Foreign, Own}
+use Rattle.order_laws.specs.table_state.specs.declared.history.Sealed.{Sealed}
+use Rattle.order_laws.specs.table_state.specs.Histories.{has_ticket}
 use Rattle.order_laws.specs.Commits.{RiseBetween}
 use Rattle.recovery_laws.specs.Notes.{Catalog, Commit, Define, Drop, FitAll, Flag, Mark, Note, Number, Prepare, found, if_stands, is_noted, log_in, only_found, recall, recall_all, told}
 

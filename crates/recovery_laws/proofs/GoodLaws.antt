@@ -3,14 +3,14 @@ use Rattle.std.proofs.Common.{◌≡◌, ◌⊎◌, inl, inr, ℕ, ◌+◌, ◌�
 use Rattle.std.specs.List.{list_any}
 use Rattle.std.proofs.lemmas.List.Elements.{filter-append}
 use Rattle.std.proofs.lemmas.List.Folds.{list_all-append, list_any-append}
-use Rattle.tier_base.specs.declared.number.TableId.{TableId}
-use Rattle.table_defs.specs.Names.{same_name}
-use Rattle.table_state.specs.declared.history.Entry.{Entry}
-use Rattle.table_state.specs.declared.history.Sealed.{Sealed}
-use Rattle.table_state.specs.declared.operation.Op.{Op}
-use Rattle.table_state.specs.Copies.{is_one_of}
-use Rattle.table_state.specs.Histories.{has_ticket}
-use Rattle.table_state.specs.Operations.{table_of}
+use Rattle.order_laws.specs.tier_base.specs.declared.number.TableId.{TableId}
+use Rattle.order_laws.specs.table_defs.specs.Names.{same_name}
+use Rattle.order_laws.specs.table_state.specs.declared.history.Entry.{Entry}
+use Rattle.order_laws.specs.table_state.specs.declared.history.Sealed.{Sealed}
+use Rattle.order_laws.specs.table_state.specs.declared.operation.Op.{Op}
+use Rattle.order_laws.specs.table_state.specs.Copies.{is_one_of}
+use Rattle.order_laws.specs.table_state.specs.Histories.{has_ticket}
+use Rattle.order_laws.specs.table_state.specs.Operations.{table_of}
 use Rattle.order_laws.specs.Commits.{LiveGroup, NoneBelow, is_op_on, is_pending, pending}
 use Rattle.order_laws.specs.Sides.{all_on, are_off, are_on}
 use Rattle.order_laws.specs.Standing.{PendingIsLive, all_off, live_tables}

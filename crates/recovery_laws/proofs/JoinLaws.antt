@@ -1,6 +1,6 @@
 -- Moments of one part of a request are moments of the whole.
 use Rattle.std.proofs.Common.{◌≡◌, ◌⊎◌, inl, inr, List, []}
-use Rattle.table_state.specs.declared.history.Entry.{Entry}
+use Rattle.order_laws.specs.table_state.specs.declared.history.Entry.{Entry}
 use Rattle.recovery_laws.specs.Notes.{Note}
 use Rattle.recovery_laws.specs.Crashes.{AtMoment, Event, Path, World, done, flushes, given, then, with_flushed}
 use Rattle.order_laws.specs.Commits.{pending}

@@ -2,15 +2,15 @@
 use Rattle.std.proofs.Common.{◌≡◌, ◌⊎◌, inl, inr, ℕ, ◌+◌, ◌≤◌, ◌<◌, List, [], ◌∷◌, ◌++◌, map, Bool, true, false, ◌||◌, not, cond, refl, sym, ◌∙◌, ap, subst, arith, append_assoc, append-nil, eq-eqb}
 use Rattle.std.proofs.Math.Nat.{le-max_left, le-max_right}
 use Rattle.std.proofs.lemmas.List.Elements.{filter-append}
-use Rattle.table_defs.specs.declared.definition.TableDef.{TableDef}
-use Rattle.table_state.specs.declared.history.Entry.{Entry}
-use Rattle.table_state.specs.declared.history.Sealed.{Sealed}
-use Rattle.table_state.specs.Histories.{entry_of, has_ticket}
+use Rattle.order_laws.specs.table_defs.specs.declared.definition.TableDef.{TableDef}
+use Rattle.order_laws.specs.table_state.specs.declared.history.Entry.{Entry}
+use Rattle.order_laws.specs.table_state.specs.declared.history.Sealed.{Sealed}
+use Rattle.order_laws.specs.table_state.specs.Histories.{entry_of, has_ticket}
 use Rattle.order_laws.specs.Commits.{FollowsLower, LiveGroup, MayCome, RiseBetween, conflicting, is_pending, pending}
 use Rattle.order_laws.specs.Standing.{AreClosed, GroupsAreOrdered, Stand, progress_of}
 use Rattle.order_laws.proofs.NextLaws.{before_has_not, behind_has_not, same_pending}
 use Rattle.order_laws.proofs.WholeLaws.{stand_comes}
-use Rattle.table_state.proofs.HistoryLaws.{has_ticket-append}
+use Rattle.order_laws.specs.table_state.proofs.HistoryLaws.{has_ticket-append}
 use Rattle.recovery_laws.specs.Notes.{FitAll, Note, catalog_of, empty_catalog, groups_of, is_noted, log_in, mark_of, next_of}
 use Rattle.recovery_laws.specs.Matching.{HaveOrder, IsMatched}
 use Rattle.recovery_laws.proofs.FoldLaws.{fold_rise, noted_below, rise_higher}

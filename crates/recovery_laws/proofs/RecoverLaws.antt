@@ -1,11 +1,11 @@
 -- A matching pair recovers, and recovering again adds nothing.
 use Rattle.std.proofs.Common.{◌≡◌, List, [], ◌∷◌, ◌++◌, map, Some, refl, sym, ◌∙◌, ap, subst, append_assoc, append-nil}
-use Rattle.table_state.specs.declared.history.Entry.{Entry}
-use Rattle.table_state.specs.declared.history.Entry.TheVariants.{Foreign}
-use Rattle.table_state.specs.declared.history.Sealed.{Sealed}
-use Rattle.table_state.specs.Tables.{TableState}
-use Rattle.table_state.specs.Histories.{entry_of}
-use Rattle.table_state.specs.Operations.{applied_all}
+use Rattle.order_laws.specs.table_state.specs.declared.history.Entry.{Entry}
+use Rattle.order_laws.specs.table_state.specs.declared.history.Entry.TheVariants.{Foreign}
+use Rattle.order_laws.specs.table_state.specs.declared.history.Sealed.{Sealed}
+use Rattle.order_laws.specs.table_state.specs.Tables.{TableState}
+use Rattle.order_laws.specs.table_state.specs.Histories.{entry_of}
+use Rattle.order_laws.specs.table_state.specs.Operations.{applied_all}
 use Rattle.order_laws.specs.Commits.{LiveGroup, MayCome, conflicting, in_order, pending}
 use Rattle.order_laws.specs.Sides.{AgreeOn}
 use Rattle.order_laws.specs.Standing.{HasGroup}

@@ -1,6 +1,6 @@
 -- A rotation is an event.
 use Rattle.std.proofs.Common.{◌≡◌, ◌≤◌, List, [], ◌++◌, map, max, arith, true, ℕ, sym, ap, subst, ◌∙◌, append-nil}
-use Rattle.table_state.specs.declared.history.Sealed.{Sealed}
+use Rattle.order_laws.specs.table_state.specs.declared.history.Sealed.{Sealed}
 use Rattle.order_laws.specs.Commits.{pending}
 use Rattle.order_laws.specs.Sides.{all_on}
 use Rattle.order_laws.specs.Standing.{Stand, live_tables, progress_of}

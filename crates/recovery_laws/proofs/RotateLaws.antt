@@ -4,12 +4,12 @@ use Rattle.std.specs.List.{filter, list_any}
 use Rattle.std.proofs.Math.Nat.{le-max_left}
 use Rattle.std.proofs.lemmas.Bool.{le-leb, leb-true}
 use Rattle.std.proofs.lemmas.List.Folds.{list_all-append}
-use Rattle.tier_base.specs.declared.number.TableId.{TableId}
-use Rattle.table_defs.specs.declared.definition.TableDef.{TableDef}
-use Rattle.table_state.specs.declared.history.Entry.{Entry}
-use Rattle.table_state.specs.declared.history.Sealed.{Sealed}
-use Rattle.table_state.specs.Histories.{entry_of, has_ticket, state_of}
-use Rattle.table_state.specs.Copies.{is_one_of}
+use Rattle.order_laws.specs.tier_base.specs.declared.number.TableId.{TableId}
+use Rattle.order_laws.specs.table_defs.specs.declared.definition.TableDef.{TableDef}
+use Rattle.order_laws.specs.table_state.specs.declared.history.Entry.{Entry}
+use Rattle.order_laws.specs.table_state.specs.declared.history.Sealed.{Sealed}
+use Rattle.order_laws.specs.table_state.specs.Histories.{entry_of, has_ticket, state_of}
+use Rattle.order_laws.specs.table_state.specs.Copies.{is_one_of}
 use Rattle.order_laws.specs.Commits.{LiveGroup, NoneBelow, RiseBetween, entry_on, in_order, is_op_on, is_other, of_group, pending}
 use Rattle.order_laws.specs.Sides.{all_on, are_on}
 use Rattle.order_laws.specs.Standing.{GroupsAreOrdered, Stand, live_tables, progress_of}

@@ -1,8 +1,8 @@
 -- The tier's own list of committed transactions and that of the entries: the same is pending of both.
 use Rattle.std.proofs.Common.{◌≡◌, List, [], ◌∷◌, ◌++◌, false, ℕ, refl, sym, ap, ◌∙◌, append-nil}
-use Rattle.table_state.specs.declared.history.Entry.{Entry}
-use Rattle.table_state.specs.declared.history.Sealed.{Sealed}
-use Rattle.table_state.specs.Histories.{has_ticket}
+use Rattle.order_laws.specs.table_state.specs.declared.history.Entry.{Entry}
+use Rattle.order_laws.specs.table_state.specs.declared.history.Sealed.{Sealed}
+use Rattle.order_laws.specs.table_state.specs.Histories.{has_ticket}
 use Rattle.order_laws.specs.Commits.{pending}
 use Rattle.order_laws.proofs.CommittingLaws.{pending_last}
 use Rattle.recovery_laws.specs.Notes.{Commit, Named, Note, log_in, told}

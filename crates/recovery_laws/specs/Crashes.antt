@@ -1,15 +1,15 @@
 -- What happens to a journal and a history, and what a crash may leave. (This project's rule.)
 
 use Rattle.std.specs.Prelude.{◌≡◌, ◌⊎◌, ℕ, ◌≤◌, List, [], ◌∷◌, ◌++◌, true, false, Some, map}
-use Rattle.tier_base.specs.declared.number.TableId.{TableId}
-use Rattle.table_defs.specs.declared.definition.TableDef.{TableDef}
-use Rattle.table_state.specs.declared.history.Entry.{Entry}
-use Rattle.table_state.specs.declared.history.Entry.TheVariants.{Definition, Foreign}
-use Rattle.table_state.specs.declared.history.Sealed.{Sealed}
-use Rattle.table_state.specs.declared.operation.Op.{Op}
-use Rattle.table_state.specs.Tables.{TableState}
-use Rattle.table_state.specs.Histories.{entry_of, has_ticket, state_of}
-use Rattle.table_state.specs.Operations.{applied_all}
+use Rattle.order_laws.specs.tier_base.specs.declared.number.TableId.{TableId}
+use Rattle.order_laws.specs.table_defs.specs.declared.definition.TableDef.{TableDef}
+use Rattle.order_laws.specs.table_state.specs.declared.history.Entry.{Entry}
+use Rattle.order_laws.specs.table_state.specs.declared.history.Entry.TheVariants.{Definition, Foreign}
+use Rattle.order_laws.specs.table_state.specs.declared.history.Sealed.{Sealed}
+use Rattle.order_laws.specs.table_state.specs.declared.operation.Op.{Op}
+use Rattle.order_laws.specs.table_state.specs.Tables.{TableState}
+use Rattle.order_laws.specs.table_state.specs.Histories.{entry_of, has_ticket, state_of}
+use Rattle.order_laws.specs.table_state.specs.Operations.{applied_all}
 use Rattle.order_laws.specs.Commits.{LiveGroup, MayCome, conflicting, pending, virtual_state}
 use Rattle.order_laws.specs.Sides.{IsClosed, are_off, are_on}
 use Rattle.order_laws.specs.Standing.{AreClosed, all_off, live_tables}

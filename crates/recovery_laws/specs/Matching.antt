@@ -1,13 +1,13 @@
 -- When a journal's entries and a history belong together. (This project's rule.)
 
 use Rattle.std.specs.Prelude.{◌≡◌, ◌⊎◌, ℕ, ◌<◌, List, [], ◌∷◌, ◌++◌, true, Some}
-use Rattle.table_state.specs.declared.history.Entry.{Entry}
-use Rattle.table_state.specs.declared.history.Sealed.{Sealed}
-use Rattle.table_state.specs.Histories.{entry_of, has_ticket, state_of}
-use Rattle.table_state.specs.Tables.{TableState}
-use Rattle.table_state.specs.declared.history.Entry.TheVariants.{Foreign}
-use Rattle.table_state.specs.declared.operation.Op.{Op}
-use Rattle.table_state.specs.Operations.{applied_all}
+use Rattle.order_laws.specs.table_state.specs.declared.history.Entry.{Entry}
+use Rattle.order_laws.specs.table_state.specs.declared.history.Sealed.{Sealed}
+use Rattle.order_laws.specs.table_state.specs.Histories.{entry_of, has_ticket, state_of}
+use Rattle.order_laws.specs.table_state.specs.Tables.{TableState}
+use Rattle.order_laws.specs.table_state.specs.declared.history.Entry.TheVariants.{Foreign}
+use Rattle.order_laws.specs.table_state.specs.declared.operation.Op.{Op}
+use Rattle.order_laws.specs.table_state.specs.Operations.{applied_all}
 use Rattle.order_laws.specs.Commits.{IsLegal, LiveGroup, MayCome, conflicting, in_order, pending, virtual_state}
 use Rattle.order_laws.specs.Sides.{are_off}
 use Rattle.order_laws.specs.Standing.{AreClosed, AreOnDefined, Stand, live_tables, progress_of}

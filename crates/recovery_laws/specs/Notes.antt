@@ -3,13 +3,13 @@
 
 use Rattle.std.specs.Prelude.{◌≡◌, ℕ, ◌+◌, ◌≤◌, max, List, [], ◌∷◌, ◌++◌, Bool, true, false, not, ◌||◌, nat_eq, Option, Some, None, if◌then◌else◌}
 use Rattle.std.specs.List.{list_all}
-use Rattle.tier_base.specs.declared.number.TableId.{TableId}
-use Rattle.table_defs.specs.Names.{same_name}
-use Rattle.table_state.specs.declared.history.Entry.{Entry}
-use Rattle.table_state.specs.declared.history.Entry.TheVariants.{Definition, Foreign, Own}
-use Rattle.table_state.specs.declared.history.Sealed.{Sealed}
-use Rattle.table_state.specs.Copies.{is_one_of}
-use Rattle.table_state.specs.Histories.{has_ticket}
+use Rattle.order_laws.specs.tier_base.specs.declared.number.TableId.{TableId}
+use Rattle.order_laws.specs.table_defs.specs.Names.{same_name}
+use Rattle.order_laws.specs.table_state.specs.declared.history.Entry.{Entry}
+use Rattle.order_laws.specs.table_state.specs.declared.history.Entry.TheVariants.{Definition, Foreign, Own}
+use Rattle.order_laws.specs.table_state.specs.declared.history.Sealed.{Sealed}
+use Rattle.order_laws.specs.table_state.specs.Copies.{is_one_of}
+use Rattle.order_laws.specs.table_state.specs.Histories.{has_ticket}
 use Rattle.order_laws.specs.Commits.{LiveGroup, pending}
 use Rattle.order_laws.specs.Sides.{are_on}
 use Rattle.order_laws.specs.Standing.{all_off, live_tables}

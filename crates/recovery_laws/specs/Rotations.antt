@@ -2,9 +2,9 @@
 
 use Rattle.std.specs.Prelude.{◌≡◌, ℕ, ◌≤◌, List, [], ◌∷◌, ◌++◌, true, map}
 use Rattle.std.specs.List.{list_any}
-use Rattle.table_defs.specs.declared.definition.TableDef.{TableDef}
-use Rattle.table_state.specs.declared.history.Entry.{Entry}
-use Rattle.table_state.specs.declared.history.Sealed.{Sealed}
+use Rattle.order_laws.specs.table_defs.specs.declared.definition.TableDef.{TableDef}
+use Rattle.order_laws.specs.table_state.specs.declared.history.Entry.{Entry}
+use Rattle.order_laws.specs.table_state.specs.declared.history.Sealed.{Sealed}
 use Rattle.order_laws.specs.Commits.{LiveGroup, is_op_on}
 use Rattle.order_laws.specs.Steps.{MayLeave}
 use Rattle.order_laws.specs.Commits.{pending}

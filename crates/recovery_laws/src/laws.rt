@@ -2,9 +2,9 @@
 //! recovery as the TimesTen Cache User's Guide tells of it.
 
 ghost use Rattle.std.specs.Prelude.{◌≡◌, ◌++◌, ◌≤◌, ℕ, List, [], map, true};
-ghost use Rattle.table_state.specs.declared.history.Entry.{Entry};
-ghost use Rattle.table_state.specs.declared.history.Sealed.{Sealed};
-ghost use Rattle.table_state.specs.Histories.{entry_of};
+ghost use Rattle.order_laws.specs.table_state.specs.declared.history.Entry.{Entry};
+ghost use Rattle.order_laws.specs.table_state.specs.declared.history.Sealed.{Sealed};
+ghost use Rattle.order_laws.specs.table_state.specs.Histories.{entry_of};
 ghost use Rattle.order_laws.specs.Commits.{pending};
 ghost use Rattle.order_laws.specs.Standing.{Stand, progress_of};
 ghost use Rattle.recovery_laws.specs.Notes.{Note, catalog_of, groups_of, log_in, next_of};

@@ -5,3 +5,4 @@
 mod laws;
 
 pub use laws::{crash_law, recovery_law, rotation_law};
+pub use order_laws::tier_base;

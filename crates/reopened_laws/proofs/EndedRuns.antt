@@ -126,7 +126,7 @@ rests_leave_sites state possible settings moment there left o lines replies d x 
     rest_leaves settings moment there left o lines replies (state d) (WasKept state possible) x may a.comes.given a.ran a.comes.run a.goes (subst IsUnshared a.ended apart) (subst (IsAt (state d)) a.ended a.at) (subst (IsInSlots (state d)) a.ended a.slots) told
 
 pub runs_leave_sites : {D : Type 0} (state : D → SiteState) (possible : D → ℕ → Held → Type 0) → RunsLeaveSites state possible
-runs_leave_sites state possible settings there left start input written written' coming coming' d d' source x alone may apart told =
+runs_leave_sites state possible onset settings there left start input written written' coming coming' d d' source x alone may apart told =
     let run = x.ended alone in
     flushed_leave_sites state possible settings x.first there left (begins x.world start coming) (all_lines run.taken.given) run.outcome.replies d' x.opens
     (record { may = subst (λ s. MayOpen s there) (sym x.shares) may.may; bytes = may.bytes; named = may.named }) run.outcome.answered apart told

@@ -175,7 +175,7 @@ module _ (w last : World) (site : SiteState) (left : Held) (stands : Stands w) (
 
 module _ {D : Type 0} (state : D → SiteState) (possible : D → ℕ → Held → Type 0) where
   pub imports_leave_sites : ImportsLeaveSites state possible
-  imports_leave_sites status settings there left word input written written' coming coming' d d' source x may told = by status x.ended
+  imports_leave_sites onset status settings there left word input written written' coming coming' d d' source x may told = by status x.ended
     where
       may_there : MayOpenAgain x.world.shared there
       may_there = record { may = subst (λ s. MayOpen s there) (sym x.shares) may.may; bytes = may.bytes; named = may.named }

@@ -1,3 +1,4 @@
+mod BegunLaws
 mod CrashLaws
 mod EndedRuns
 mod HandedOn
@@ -17,4 +18,5 @@ mod SchemaLaws
 mod SiteLaws
 mod SlotLaws
 mod TicketLaws
+mod UnopenedLaws
 mod WithinLaws

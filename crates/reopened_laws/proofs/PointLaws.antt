@@ -1,5 +1,5 @@
 -- What a crash has left on the way of a journal may be opened again.
-use Rattle.std.proofs.Common.{◌≡◌, inl, ℕ, zero, suc, ◌≤◌, ◌^◌, true, false, Some, List, [], ◌∷◌, ◌++◌, slice_get, take, drop, refl, sym, ap, subst, ◌∙◌, take-append-drop}
+use Rattle.std.proofs.Common.{◌≡◌, ℕ, zero, suc, ◌≤◌, ◌^◌, true, false, Some, List, [], ◌∷◌, ◌++◌, slice_get, take, drop, refl, sym, ap, subst, ◌∙◌, take-append-drop}
 use Rattle.std.specs.List.{AllByRecursion}
 use Rattle.tier_base.specs.declared.number.TableId.{TableId}
 use Rattle.table_defs.specs.declared.definition.TableDef.{TableDef}
@@ -120,7 +120,7 @@ module _ (shared : List TableId) (p : Held) (entries : List JournalEntry) (m : A
 
     journalled : IsJournalled begun []
     unfolding told
-    journalled = begun_journalled settings moment b.entries begun [] told b.catalog recalls refl (record { kept = refl; flushed = refl; tail = refl; way = inl refl }) tt
+    journalled = begun_journalled settings moment b.entries begun [] told b.catalog recalls refl (record { kept = refl; flushed = refl; tail = refl; way = tt }) tt
 
     on : IsJournalledOn (at_history (p.history ++ b.others) begun) []
     on = others_kept begun [] b.others begun.tier journalled free came (still_quiet begun.tier)

@@ -1,5 +1,5 @@
 -- That what the next opening reads can be read where a tier was opened.
-use Rattle.std.proofs.Common.{◌≡◌, inl, ℕ, suc, cond, Some, None, List, [], ◌∷◌, map, refl, sym, ap, subst, ◌∙◌}
+use Rattle.std.proofs.Common.{◌≡◌, inl, ℕ, suc, cond, Option, Some, None, List, [], ◌∷◌, map, refl, sym, ap, subst, ◌∙◌}
 use Rattle.std.specs.List.{list_any}
 use Rattle.table_defs.specs.declared.definition.TableDef.{TableDef}
 use Rattle.table_state.specs.Histories.{no_tables, state_of}
@@ -12,6 +12,7 @@ use Rattle.print_laws.proofs.StatementReading.{statement_spelt}
 use Rattle.sql_subset.specs.Lines.{Spells}
 use Rattle.sql_subset.specs.declared.stmt.CreateGroup.{CreateGroup}
 use Rattle.sql_subset.specs.declared.stmt.Stmt.TheVariants as statement
+use Rattle.cache_tier.specs.declared.reply.Reply.{Reply}
 use Rattle.cache_tier.specs.Groups.{Group, definitions_of, is_called}
 use Rattle.cache_tier.specs.Journals.{Commits, Defines, Drops, Journal, JournalEntry, Marks, Numbers, Prepares, SetsLoaded, SetsState}
 use Rattle.cache_tier.specs.Reading.{as_it_was, backing_at}
@@ -23,6 +24,8 @@ use Rattle.recovery.specs.Recalling.{Recalls, RecallsAll}
 use Rattle.recovery.specs.Reopening.{HoldAgain, HoldsAgainAt, Reloads, Reopens, ViewsAgain, holding, is_held_again, is_viewed_again}
 use Rattle.recovery.proofs.LongerLaws.{schema_stays}
 use Rattle.tier_journal.specs.Opening.{IsSpelt, StandForAll}
+use Rattle.tier_journal.specs.declared.journal.TierJournal.{TierJournal}
+use Rattle.tier_opening.specs.Opening.{BeginsIn}
 use Rattle.cache_engine.specs.Opening.{Opens}
 use Rattle.reopened_laws.specs.Leaving.{HasText, HaveOwnTableNames}
 use Rattle.reopened_laws.proofs.ReadTiers.{changed_rests, cond_def, mapped_defs, refreshed_rests, rests}
@@ -99,34 +102,35 @@ reopens_keeps = then_stage_keeps Applies Reloads applies_keeps reloads_keeps
 
 -- ---- where a tier was opened
 
-module _ (settings : Settings) (moment : ℕ) (there : Held) (w : World) (x : Opens settings moment there w) (named : (s : TableState) → state_of there.history ≡ Some s → HaveOwnTableNames s.schema) where
-  abbrev begun : World
-  begun = x.begun
+module _ (settings : Settings) (moment : ℕ) (there : Held) (k : TierJournal) (begun : World) (b : BeginsIn settings moment there k begun) (named : (s : TableState) → state_of there.history ≡ Some s → HaveOwnTableNames s.schema) where
+  said : AllRead b.entries
+  said = all_read b.schema b.entries b.say.placed b.say.stand
 
-  said : AllRead x.begins.entries
-  said = all_read x.begins.schema x.begins.entries x.begins.say.placed x.begins.say.stand
+  groups : AllPrint (definitions_of b.catalog.groups)
+  groups = all_print b.schema b.entries b.say.placed (opened settings moment b.schema) b.catalog b.say.stand b.recalls tt
 
-  groups : AllPrint (definitions_of x.begins.catalog.groups)
-  groups = all_print x.begins.schema x.begins.entries x.begins.say.placed (opened settings moment x.begins.schema) x.begins.catalog x.begins.say.stand x.begins.recalls tt
-
-  schema : begun.tier.schema ≡ x.begins.schema
-  schema = ap (λ (t : Tier). t.schema) x.begins.tier ∙ all_stays x.begins.entries (opened settings moment x.begins.schema) x.begins.catalog x.begins.recalls
+  schema : begun.tier.schema ≡ b.schema
+  schema = ap (λ (t : Tier). t.schema) b.tier ∙ all_stays b.entries (opened settings moment b.schema) b.catalog b.recalls
 
   others : defs_of begun.history ≡ defs_of there.history
-  others = defs_same there.history begun.history (record { more = x.begins.others; is = x.begins.history; none = defs_others x.begun.shared there.history x.begins.others x.begins.came })
+  others = defs_same there.history begun.history (record { more = b.others; is = b.history; none = defs_others begun.shared there.history b.others b.came })
 
   began : Readable begun
   began = record {
-    flushed = subst AllRead (sym (ap (λ (j : Journal). j.flushed) x.begins.journal)) said;
-    tail = subst AllRead (sym (ap (λ (j : Journal). j.tail) x.begins.journal)) tt;
-    way = subst WayReads (sym (ap (λ (j : Journal). j.way) x.begins.journal)) tt;
-    groups = subst AllPrint (sym (ap (λ (t : Tier). definitions_of t.groups) x.begins.tier)) groups;
-    known = λ s leaves fresh. schema ∙ sym (x.begins.known s leaves) ∙ schema_after begun.history no_tables s leaves;
+    flushed = subst AllRead (sym (ap (λ (j : Journal). j.flushed) b.journal)) said;
+    tail = subst AllRead (sym (ap (λ (j : Journal). j.tail) b.journal)) tt;
+    way = subst WayReads (sym (ap (λ (j : Journal). j.way) b.journal)) tt;
+    groups = subst AllPrint (sym (ap (λ (t : Tier). definitions_of t.groups) b.tier)) groups;
+    known = λ s leaves fresh. schema ∙ sym (b.known s leaves) ∙ schema_after begun.history no_tables s leaves;
     own = λ s leaves.
-        (let m = state_before there.history begun.history x.begins.others s x.begins.history leaves in
+        (let m = state_before there.history begun.history b.others s b.history leaves in
         subst HaveOwnTableNames (schema_after there.history no_tables m.0 m.1 ∙ sym others) (named m.0 m.1));
-    front = λ s leaves. whole_front begun.tier.schema begun.history (schema ∙ sym (x.begins.known s leaves) ∙ schema_after begun.history no_tables s leaves);
+    front = λ s leaves. whole_front begun.tier.schema begun.history (schema ∙ sym (b.known s leaves) ∙ schema_after begun.history no_tables s leaves);
   }
 
-  pub opened_readable : Readable w
-  opened_readable = reopens_keeps begun w None x.reopens began
+  -- whatever end the opening comes to
+  pub reopened_readable : (w : World) (stop : Option Reply) → Reopens begun w stop → Readable w
+  reopened_readable w stop does = reopens_keeps begun w stop does began
+
+pub opened_readable : (settings : Settings) (moment : ℕ) (there : Held) (w : World) (x : Opens settings moment there w) → ((s : TableState) → state_of there.history ≡ Some s → HaveOwnTableNames s.schema) → Readable w
+opened_readable settings moment there w x named = reopened_readable settings moment there x.journal x.begun x.begins named w None x.reopens

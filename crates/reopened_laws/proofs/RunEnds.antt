@@ -1,5 +1,5 @@
 -- A run over a site leaves one that may be opened again.
-use Rattle.std.proofs.Common.{◌≡◌, inr, ℕ, suc, ◌≤◌, ◌^◌, false, Option, None, List, [], ◌∷◌, refl, sym, ap, subst, ◌∙◌}
+use Rattle.std.proofs.Common.{◌≡◌, ℕ, suc, ◌≤◌, ◌^◌, false, Option, None, List, [], ◌∷◌, refl, sym, ap, subst, ◌∙◌}
 use Rattle.std.specs.List.{list_any}
 use Rattle.table_state.specs.declared.history.Sealed.{Sealed}
 use Rattle.outside.specs.Holding.{Held}
@@ -21,14 +21,16 @@ use Rattle.line_laws.specs.Keeping.{is_broken}
 use Rattle.recovery.proofs.OthersLaws.{on_then}
 use Rattle.line_laws.proofs.FlushLaws.{IsWhole, kept_flushes, tail_flushed}
 use Rattle.run_laws.specs.Lines.{MayBegin, MayGoOn}
-use Rattle.run_laws.specs.Runs.{IsKeptOf, Reopened}
+use Rattle.run_laws.specs.Runs.{IsKeptOf, Reopened, StoodOpening}
 use Rattle.run_laws.proofs.LineLaws.{step_kept, step_kinds}
-use Rattle.run_laws.proofs.ReopenLaws.{reopened_kept}
+use Rattle.run_laws.proofs.ReopenLaws.{reopened_kept, stood_kept}
 use Rattle.run_laws.proofs.RunKeeps.{ticket_left}
-use Rattle.tier_opening.specs.Opening.{MayOpen, begun_tier}
+use Rattle.tier_journal.specs.declared.journal.TierJournal.{TierJournal}
+use Rattle.tier_opening.specs.Opening.{BeginsIn, MayOpen, begun_tier}
 use Rattle.cache_engine.specs.Opening.{Opens}
 use Rattle.cache_engine.specs.Requests.{Given, LineRun, LineStep}
 use Rattle.reopened_laws.specs.Leaving.{GoesOnThrough, IsLeftAt}
+use Rattle.reopened_laws.proofs.BegunLaws.{safe_way}
 use Rattle.reopened_laws.proofs.SiteLaws.{may_open, site_may_open}
 
 -- ---- what the opening leads to
@@ -62,32 +64,42 @@ reopens_lead = then_stage_leads Applies Reloads applies_leads reloads_lead
 
 -- ---- where the run begins
 
-module _ (settings : Settings) (moment : ℕ) (there : Held) (w : World) (x : Opens settings moment there w) (may : MayOpen w.shared there) where
-  both : AreMatched x.begins.entries x.begun.history × IsUnshared x.begun
-  both = may settings moment x.journal x.begun x.begins (sym (reopens_lead x.begun w None x.reopens).shared)
+-- the world in which a tier begins, over a journal that was found
+module _ (settings : Settings) (moment : ℕ) (there : Held) (k : TierJournal) (begun : World) (b : BeginsIn settings moment there k begun) (may : MayOpen begun.shared there) where
+  both : AreMatched b.entries begun.history × IsUnshared begun
+  both = may settings moment k begun b refl
 
-  schema : both.0.backing.schema ≡ x.begins.schema
-  schema = x.begins.known both.0.backing both.0.leaves
+  schema : both.0.backing.schema ≡ b.schema
+  schema = b.known both.0.backing both.0.leaves
 
-  is : IsReopened settings moment x.begins.entries x.begun w None
-  is = record {
+  -- whatever end the opening comes to
+  is : (w : World) (stop : Option Reply) → Reopens begun w stop → IsReopened settings moment b.entries begun w stop
+  is w stop does = record {
     matched = both.0;
-    catalog = x.begins.catalog;
-    recalls = subst (λ s. RecallsAll x.begins.entries (opened settings moment s) x.begins.catalog) (sym schema) x.begins.recalls;
-    tier = x.begins.tier ∙ ap (λ s. begun_tier s x.begins.entries x.begun.history x.begins.catalog) (sym schema);
-    does = x.reopens;
+    catalog = b.catalog;
+    recalls = subst (λ s. RecallsAll b.entries (opened settings moment s) b.catalog) (sym schema) b.recalls;
+    tier = b.tier ∙ ap (λ s. begun_tier s b.entries begun.history b.catalog) (sym schema);
+    does = does;
   }
 
-  kept : IsKeptOf x.begins.entries x.begun
+  kept : IsKeptOf b.entries begun
   kept = record {
-    kept = ap (λ (k : Journal). k.kept) x.begins.journal;
-    flushed = ap (λ (k : Journal). k.flushed) x.begins.journal;
-    tail = ap (λ (k : Journal). k.tail) x.begins.journal;
-    way = inr (ap (λ (k : Journal). k.way) x.begins.journal);
+    kept = ap (λ (k : Journal). k.kept) b.journal;
+    flushed = ap (λ (k : Journal). k.flushed) b.journal;
+    tail = ap (λ (k : Journal). k.tail) b.journal;
+    way = safe_way settings moment there k begun b may;
   }
 
-  pub begins_again : Reopened w []
-  begins_again = reopened_kept settings moment x.begins.entries x.begun w [] is kept tt both.1
+  pub begins_opened : (w : World) → Reopens begun w None → Reopened w []
+  begins_opened w does = reopened_kept settings moment b.entries begun w [] (is w None does) kept tt both.1
+
+  pub begins_stopped : (w : World) (stop : Option Reply) → Reopens begun w stop → StoodOpening w []
+  begins_stopped w stop does = stood_kept settings moment b.entries begun w [] stop (is w stop does) kept tt both.1
+
+-- and of an engine that was opened
+pub begins_again : (settings : Settings) (moment : ℕ) (there : Held) (w : World) (x : Opens settings moment there w) → MayOpen w.shared there → Reopened w []
+begins_again settings moment there w x may =
+    begins_opened settings moment there x.journal x.begun x.begins (subst (λ s. MayOpen s there) (reopens_lead x.begun w None x.reopens).shared may) w x.reopens
 
 -- ---- through the lines
 

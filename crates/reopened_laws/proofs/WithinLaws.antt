@@ -1,6 +1,7 @@
 -- Whatever a crash leaves at any moment of a run holds what was held.
-use Rattle.std.proofs.Common.{◌≡◌, ℕ, ◌≤◌, Bool, true, false, Option, Some, None, List, [], ◌∷◌, ◌++◌, length, take, refl, sym, ap, subst, ◌∙◌, append-nil, append_assoc}
+use Rattle.std.proofs.Common.{◌≡◌, ℕ, ◌≤◌, Bool, true, false, Option, Some, None, List, [], ◌∷◌, ◌++◌, length, take, drop, refl, sym, ap, subst, ◌∙◌, append-nil, append_assoc, take-append-drop}
 use Rattle.std.specs.List.{AllByRecursion}
+use Rattle.std.proofs.lemmas.List.{take_at}
 use Rattle.std.proofs.lemmas.Option.{same_Some}
 use Rattle.tier_base.specs.declared.number.TableId.{TableId}
 use Rattle.table_defs.specs.declared.definition.TableDef.{TableDef}
@@ -21,7 +22,7 @@ use Rattle.cache_tier.specs.JournalSteps.{FlushesKept}
 use Rattle.cache_tier.specs.Steps.{Finishes}
 use Rattle.cache_tier.specs.Journals.{Journal, JournalEntry, Way}
 use Rattle.cache_tier.specs.JournalWays.{Beginning, beginning_in, beginning_of, first_of}
-use Rattle.cache_tier.specs.WayPoints.{IsPoint, with_way}
+use Rattle.cache_tier.specs.WayPoints.{IsPoint}
 use Rattle.cache_tier.specs.Worlds.{IsUnshared, Passes, Tries, World}
 use Rattle.cache_tier.specs.TierStates.{Settings, Tier}
 use Rattle.cache_tier.proofs.StatementLaws.{heed_leads, step_keeps_way, step_leads}
@@ -46,7 +47,7 @@ use Rattle.run_laws.proofs.LineLaws.{step_kept, step_kinds}
 use Rattle.run_laws.proofs.BrokenLines.{step_breaks}
 use Rattle.run_laws.proofs.RunKeeps.{ended_broken}
 use Rattle.stored_tier.specs.Sites.{IsAt}
-use Rattle.tier_opening.specs.Opening.{MayOpen}
+use Rattle.tier_opening.specs.Opening.{AtJournal, AtOpening, MayOpen, Onset, StartsAt, onset_history, onset_moment}
 use Rattle.tier_journal.specs.Leaving.{GivesEntries}
 use Rattle.tier_journal.specs.Writing.{HasTables}
 use Rattle.session_cli.specs.Importing.{ImportEnds}
@@ -56,7 +57,8 @@ use Rattle.session_cli.specs.Outside.{WasKept, seen}
 use Rattle.session_cli.specs.Serving.{Anywhere, BreaksFrom, EndsKept, FailsFrom, GoesOn, HasFlushed, LedSince, LedSinceEach, Rests, WasLeft}
 use Rattle.reopened_laws.specs.Ending.{MayOpenAgain}
 use Rattle.reopened_laws.specs.Leaving.{HasText}
-use Rattle.reopened_laws.specs.Within.{AskNothing, Asking, BrokenEndsAreSafe, BrokenLinesAreSafe, CrashesAreSafe, CrashesWithinAreSafe, ImportsAreSafe, IsSafeLeft, LeaveAlone, LeavesSafe}
+use Rattle.reopened_laws.specs.Within.{AskNothing, Asking, BrokenEndsAreSafe, BrokenLinesAreSafe, CrashesAreSafe, CrashesWithinAreSafe, ImportsAreSafe, IsSafeLeft, LeaveAlone, LeavesSafe, as_begun, was_in}
+use Rattle.reopened_laws.proofs.BegunLaws.{front_long}
 use Rattle.reopened_laws.proofs.CrashLaws.{over_of, same_held}
 use Rattle.reopened_laws.proofs.EndedRuns.{KnowsFront}
 use Rattle.reopened_laws.proofs.HandedOn.{left_first, whole_too}
@@ -67,11 +69,6 @@ use Rattle.reopened_laws.proofs.ReadParts.{Readable, WayReads, point_reads}
 use Rattle.reopened_laws.proofs.ReadRuns.{end_keeps, goes_keeps, line_keeps, readable_told}
 use Rattle.reopened_laws.proofs.RunEnds.{begins_again, reopens_lead}
 use Rattle.reopened_laws.proofs.TicketLaws.{given_small}
-
--- the front that was there
-front_was : (h more : List Entry) → take (length h) (h ++ more) ≡ h
-front_was [] more = refl
-front_was (x ∷ h) more = ap (λ l. x ∷ l) (front_was h more)
 
 le_by : (a b k : ℕ) → a ≡ b → b ≤ k → a ≤ k
 le_by a b k e le = subst (λ n. n ≤ k) (sym e) le
@@ -105,7 +102,7 @@ line_holds once w mid g reply early h x apart whole y step = record { on = on_th
     here : IsJournalledOn mid h.on.now
     here = step_kept g.base w mid step.0 reply h.on.now m h.on.is there (whole_too reply whole) step.2
 
-longer_then : (a b c : List Entry) → Lengthens a b → Lengthens b c → Lengthens a c
+pub longer_then : (a b c : List Entry) → Lengthens a b → Lengthens b c → Lengthens a c
 longer_then a b c x y = record { more = x.more ++ y.more; is = y.is ∙ ap (λ h. h ++ y.more) x.is ∙ append_assoc a x.more y.more }
 
 led : (once : World → Type 0) (w0 w : World) (lines : List Given) (replies : List (Option Reply)) (v : World) (early : List Sealed) → LedFrom w0 w early → (run : LineRun w lines replies v) → GoesOn once w lines replies v run → LedFrom w0 v early
@@ -162,7 +159,7 @@ front_known : (v : World) → Readable v → KnowsFront v
 front_known v r s leaves = let f = r.front s leaves in (f.more, schema_after v.history no_tables s leaves ∙ f.is)
 
 -- the tier of the other world writes through no table that others change either
-unshared_as : (w w' : World) → w'.tier ≡ w.tier → w'.shared ≡ w.shared → IsUnshared w → IsUnshared w'
+pub unshared_as : (w w' : World) → w'.tier ≡ w.tier → w'.shared ≡ w.shared → IsUnshared w → IsUnshared w'
 unshared_as w w' tier shared alone t e = ap (λ (x : Tier). is_table_of is_writethrough x.groups t) tier ∙ alone t (ap (λ s. is_shared s t) (sym shared) ∙ e)
 
 becomes_then : (early schema later : List TableDef) → HasBecome early schema → (more : List TableDef) → later ≡ schema ++ more → HasBecome early later
@@ -170,14 +167,14 @@ becomes_then early schema later b more is = record { more = b.more ++ more; is =
 
 -- A world whose journal can be read, each point of whose way is safe, which goes on that began in another one. The groups
 -- are those of some tier of that journal.
-record PointsFrom (w v : World) : Type 0 where
-  groups : List Group
-  safe : IsSafeOn groups v.shared v.journal.flushed v.history v.journal.way
-  backing : TableState
-  leaves : state_of v.history ≡ Some backing
-  reads : Readable v
-  began : beginning_of v.journal ≡ beginning_of w.journal
-  longer : Lengthens w.history v.history
+pub record PointsFrom (w v : World) : Type 0 where
+  pub groups : List Group
+  pub safe : IsSafeOn groups v.shared v.journal.flushed v.history v.journal.way
+  pub backing : TableState
+  pub leaves : state_of v.history ≡ Some backing
+  pub reads : Readable v
+  pub began : beginning_of v.journal ≡ beginning_of w.journal
+  pub longer : Lengthens w.history v.history
 
 points_led : (w v : World) (early : List Sealed) → LedFrom w v early → PointsFrom w v
 points_led w v early l = record {
@@ -229,9 +226,20 @@ points_unflushed w mid v early reply l ends fails =
       longer = longer_then w.history mid.history v.history l.longer (ends_longer mid v (Some reply) ends);
     }
 
+-- the world where the way of an opened journal begins is the one that began as the run did, or where the journal was found
+begun_history : (onset : Onset) (old whole more : List Entry) → whole ≡ old ++ more → take (length (onset_history onset old whole)) whole ≡ onset_history onset old whole
+begun_history AtOpening old whole more is = ap (take (length old)) is ∙ take_at old more (length old) refl
+begun_history AtJournal old whole more is = ap (take (length whole)) (sym (append-nil whole)) ∙ take_at whole [] (length whole) refl
+
+pub was_begun : (onset : Onset) (began : ℕ) {settings : Settings} {moment : ℕ} (there : Held) {w : World} (x : Opens settings moment there w) → StartsAt onset began x.begins → was_in x ≡ as_begun onset began there x.begun
+was_begun onset began there x s =
+    ap (λ (m : ℕ). record x.begun { moment = m; history = take x.begins.from x.begun.history }) s.since
+    ∙ ap (λ (h : List Entry). record x.begun { moment = onset_moment onset began x.begun.moment; history = h })
+    (ap (λ (n : ℕ). take n x.begun.history) s.from ∙ begun_history onset there.history x.begun.history x.begins.others x.begins.history)
+
 module _ {D : Type 0} (state : D → SiteState) (possible : D → ℕ → Held → Type 0) where
   -- where others leave the tables of writethrough groups alone, they do at each point of the way
-  abbrev FreeAt : World → Asking → Type 0
+  abbrev pub FreeAt : World → Asking → Type 0
   FreeAt v asked =
       (way : Way) → v.journal.way ≡ Some way → (entries : List JournalEntry) (count : ℕ) → IsPoint way.from way.past v.journal.flushed (length v.history) entries count → count ≤ length v.history
       → asked entries (take count v.history) → LeaveUnshared v.shared entries (take count v.history)
@@ -282,7 +290,7 @@ module _ {D : Type 0} (state : D → SiteState) (possible : D → ℕ → Held �
         let r : IsSafeOnceRead (first_of way.past v.journal.flushed) (take way.from v.history) q.entries (take q.count v.history) = safe.each q.entries q.count point within in
         let s : IsSafe (first_of way.past v.journal.flushed) (take way.from v.history) q.entries (take q.count v.history) = record { matched = r.matched (given_small q.early p.slots q.entries q.gives.gives); held = r.held } in
         let here : take way.from v.history ≡ w.history =
-        ap (λ (n : ℕ). take n v.history) (ap (λ (x : Beginning). x.from) b) ∙ ap (take (length w.history)) l.longer.is ∙ front_was w.history l.longer.more in
+        ap (λ (n : ℕ). take n v.history) (ap (λ (x : Beginning). x.from) b) ∙ ap (take (length w.history)) l.longer.is ∙ take_at w.history l.longer.more (length w.history) refl in
         let left : take q.count v.history ≡ p.history = ap (take q.count) points.same ∙ sym q.front in
         record {
           entries = q.entries;
@@ -341,7 +349,7 @@ module _ {D : Type 0} (state : D → SiteState) (possible : D → ℕ → Held �
 
   module _ (d : D) (left : Held) (s : TableState) (told : (state d).held ≡ Some left) (leaves : state_of left.history ≡ Some s) where
     -- since a world, where its way leads to one at the site
-    safe_from : (w v : World) (asked : Asking) → PointsFrom (begun_here w) v → IsAt (state d) v → (there : Held) → LeavesOnWay state possible d there v v.journal.way → FreeAt v asked → LeavesSafe state possible d w s.schema asked
+    pub safe_from : (w v : World) (asked : Asking) → PointsFrom (begun_here w) v → IsAt (state d) v → (there : Held) → LeavesOnWay state possible d there v v.journal.way → FreeAt v asked → LeavesSafe state possible d w s.schema asked
     safe_from w v asked l at there points free k p lo hi may =
         schema_told w v asked p left s d (front_known v l.reads) at told leaves (safe_here w v l d there points at.shared asked free k p lo hi may)
 
@@ -393,24 +401,26 @@ module _ {D : Type 0} (state : D → SiteState) (possible : D → ℕ → Held �
     leads : LeadsTo x.begun w
     leads = reopens_lead x.begun w None x.reopens
 
-    -- the way began in it
-    begins_there : begun_here x.begun ≡ x.begun
-    begins_there =
-        ap (λ (j : Journal). record x.begun { journal = with_way x.begun.moment (length x.begun.history) j }) x.begins.journal
-        ∙ sym (ap (λ (j : Journal). record x.begun { journal = j }) x.begins.journal)
+    abbrev was : World
+    was = was_in x
 
-    begun_led : LedFrom (begun_here x.begun) w []
-    begun_led =
-        subst (λ b. LedFrom b w []) (sym begins_there)
-        (record {
-          holds = begins_held settings moment there w x may;
-          began = way_on_way x.begun.journal w.journal leads.journal.renewals leads.journal.leads;
-          longer = leads.history;
-        })
+    -- the way of its journal began there
+    began_there : beginning_of x.begun.journal ≡ beginning_of (begun_here was).journal
+    began_there =
+        ap beginning_of x.begins.journal
+        ∙ ap (λ (n : ℕ). Some (record { since = x.begins.since; from = n; entries = x.begins.entries })) (sym (front_long x.begins.from x.begun.history x.begins.most))
+        ∙ ap (λ (es : List JournalEntry). Some (record { since = x.begins.since; from = length (take x.begins.from x.begun.history); entries = es })) (sym (ap (λ (j : Journal). j.flushed) x.begins.journal))
+
+    begun_led : LedFrom (begun_here was) w []
+    begun_led = record {
+      holds = begins_held settings moment there w x may;
+      began = way_on_way x.begun.journal w.journal leads.journal.renewals leads.journal.leads ∙ began_there;
+      longer = longer_then was.history x.begun.history w.history (record { more = drop x.begins.from x.begun.history; is = sym (take-append-drop x.begins.from x.begun.history) }) leads.history;
+    }
 
     module _ (lines : List Given) (replies : List (Option Reply)) (ran : World) (run : LineRun w lines replies ran) (goes : GoesOn (WasKept state possible) w lines replies ran run) where
-      through : LedFrom (begun_here x.begun) ran []
-      through = led (WasKept state possible) (begun_here x.begun) w lines replies ran [] begun_led run goes
+      through : LedFrom (begun_here was) ran []
+      through = led (WasKept state possible) (begun_here was) w lines replies ran [] begun_led run goes
 
       left_there : IsLeft ran
       left_there = left_of (WasKept state possible) ran (goes_last (WasKept state possible) w lines replies ran run goes)
@@ -418,10 +428,10 @@ module _ {D : Type 0} (state : D → SiteState) (possible : D → ℕ → Held �
   within_ends : (ends : World → World → Type 0) → KeepsLed ends → CrashesWithinAreSafe state possible ends
   within_ends ends keeps settings moment there left s o lines replies d x may a told leaves =
       let h = begins_held settings moment there o.world x may in
-      let b = keeps (begun_here x.begun) a.ran a.last [] (through settings moment there o.world x may a.comes.given replies a.ran a.comes.run a.goes) a.ended in
+      let b = keeps (begun_here (was_in x)) a.ran a.last [] (through settings moment there o.world x may a.comes.given replies a.ran a.comes.run a.goes) a.ended in
       let over = over_of state possible d a.now.journal a.last a.now.kept a.now.keeps in (
-        safe_from d left s told leaves x.begun a.last (LeaveAlone a.ran) (points_led (begun_here x.begun) a.last [] b.led_on) a.at over.1.there over.1.leaves
-            (free_led (begun_here x.begun) a.last [] (LeaveAlone a.ran) b.led_on (λ entries history alone. unshared_as a.ran a.last b.tier b.shared alone)),
+        safe_from d left s told leaves (was_in x) a.last (LeaveAlone a.ran) (points_led (begun_here (was_in x)) a.last [] b.led_on) a.at over.1.there over.1.leaves
+            (free_led (begun_here (was_in x)) a.last [] (LeaveAlone a.ran) b.led_on (λ entries history alone. unshared_as a.ran a.last b.tier b.shared alone)),
         each_safe d left s told leaves (EndsKept ends (state d) (KeepsOver state possible d) a.ran) (LeaveAlone a.ran) (safe_ended d left s told leaves ends keeps a.ran) o.world a.comes.given replies a.ran [] h a.comes.run a.goes a.since,
       )
 
@@ -435,8 +445,8 @@ module _ {D : Type 0} (state : D → SiteState) (possible : D → ℕ → Held �
   broken_lines_are_safe settings moment there left s o lines replies d x may b told leaves =
       let r = b.comes.run in
       let h = begins_held settings moment there o.world x may in (
-        safe_from d left s told leaves x.begun b.last (LeaveUnshared (state d).shared)
-            (points_broken (begun_here x.begun) r.mid b.last [] r.last r.reply (through settings moment there o.world x may r.before r.told r.mid r.run b.goes)
+        safe_from d left s told leaves (was_in x) b.last (LeaveUnshared (state d).shared)
+            (points_broken (begun_here (was_in x)) r.mid b.last [] r.last r.reply (through settings moment there o.world x may r.before r.told r.mid r.run b.goes)
             (left_there settings moment there o.world x may r.before r.told r.mid r.run b.goes) b.unshared r.goes r.fails) b.at b.leaves.there b.leaves.leaves (free_here b.last (state d).shared b.at.shared),
         each_safe d left s told leaves (BreaksFrom (state d) (IsLeftOver state possible d) r.last r.reply) (LeaveUnshared (state d).shared) (safe_broken d left s told leaves r.last r.reply r.fails) o.world r.before r.told r.mid [] h r.run b.goes b.since,
       )
@@ -444,8 +454,8 @@ module _ {D : Type 0} (state : D → SiteState) (possible : D → ℕ → Held �
   pub broken_ends_are_safe : BrokenEndsAreSafe state possible
   broken_ends_are_safe settings moment there left s o lines replies d x may b told leaves =
       let h = begins_held settings moment there o.world x may in (
-        safe_from d left s told leaves x.begun b.last (LeaveUnshared (state d).shared)
-            (points_unflushed (begun_here x.begun) b.ran b.last [] b.reply (through settings moment there o.world x may b.comes.given b.told b.ran b.comes.run b.goes) b.ended b.broken) b.at b.leaves.there b.leaves.leaves (free_here b.last (state d).shared b.at.shared),
+        safe_from d left s told leaves (was_in x) b.last (LeaveUnshared (state d).shared)
+            (points_unflushed (begun_here (was_in x)) b.ran b.last [] b.reply (through settings moment there o.world x may b.comes.given b.told b.ran b.comes.run b.goes) b.ended b.broken) b.at b.leaves.there b.leaves.leaves (free_here b.last (state d).shared b.at.shared),
         each_safe d left s told leaves (FailsFrom (state d) (IsLeftOver state possible d) b.reply) (LeaveUnshared (state d).shared) (safe_unflushed d left s told leaves b.reply b.broken) o.world b.comes.given b.told b.ran [] h b.comes.run b.goes b.since,
       )
 
@@ -463,7 +473,7 @@ module _ {D : Type 0} (state : D → SiteState) (possible : D → ℕ → Held �
   }
 
   pub imports_are_safe : ImportsAreSafe state possible
-  imports_are_safe status settings there left s word input written written' coming coming' d d' source x may told leaves = by status x.ended
+  imports_are_safe onset status settings there left s word input written written' coming coming' d d' source x may told leaves = subst (λ b. LeavesSafe state possible d' b s.schema AskNothing) (was_begun onset (state d).moment there x.opens x.starts) (by status x.ended)
     where
       again : MayOpenAgain x.world.shared there
       again = record { may = subst (λ s. MayOpen s there) (sym x.shares) may.may; bytes = may.bytes; named = may.named }
@@ -474,20 +484,20 @@ module _ {D : Type 0} (state : D → SiteState) (possible : D → ℕ → Held �
       h : HoldsOn x.world []
       h = begins_held settings x.first there x.world x.opens again
 
-      came : (last : World) → ComesBy x.world last [] → IsAt (state d') last → IsLeftOver state possible d' last → LeavesSafe state possible d' x.opens.begun s.schema AskNothing
+      came : (last : World) → ComesBy x.world last [] → IsAt (state d') last → IsLeftOver state possible d' last → LeavesSafe state possible d' (was_in x.opens) s.schema AskNothing
       came last c at left_over =
-          safe_from d' left s told leaves x.opens.begun last AskNothing (points_come (begun_here x.opens.begun) x.world last (begun_led settings x.first there x.world x.opens again) c) at left_over.there left_over.leaves
+          safe_from d' left s told leaves (was_in x.opens) last AskNothing (points_come (begun_here (was_in x.opens)) x.world last (begun_led settings x.first there x.world x.opens again) c) at left_over.there left_over.leaves
           (λ way so entries count point within nothing.
           let safe : IsSafeWay last.tier.groups last.shared last.journal.flushed last.history way = subst (IsSafeOn last.tier.groups last.shared last.journal.flushed last.history) so c.on.is.safe in
           safe.apart (unshared_as x.world last c.tier c.shared apart) entries count point within)
 
-      done : (last : World) (reply : Reply) → Tries (Imports word input) x.world last reply → IsAt (state d') last → IsLeftOver state possible d' last → LeavesSafe state possible d' x.opens.begun s.schema AskNothing
+      done : (last : World) (reply : Reply) → Tries (Imports word input) x.world last reply → IsAt (state d') last → IsLeftOver state possible d' last → LeavesSafe state possible d' (was_in x.opens) s.schema AskNothing
       done last reply is at left_over = came last (import_comes word input x.world last reply [] x.stands h.on apart h.reads is) at left_over
 
-      nothing : IsAt (state d') x.world → IsLeftOver state possible d' x.world → LeavesSafe state possible d' x.opens.begun s.schema AskNothing
+      nothing : IsAt (state d') x.world → IsLeftOver state possible d' x.world → LeavesSafe state possible d' (was_in x.opens) s.schema AskNothing
       nothing at left_over = came x.world (stays x.world x.world [] h.on h.reads refl) at left_over
 
-      by : (status : Status) → ImportEnds status word input x.world (seen written coming state possible d) source (seen written' coming' state possible d') → LeavesSafe state possible d' x.opens.begun s.schema AskNothing
+      by : (status : Status) → ImportEnds status word input x.world (seen written coming state possible d) source (seen written' coming' state possible d') → LeavesSafe state possible d' (was_in x.opens) s.schema AskNothing
       by Finished e = done e.imported.world e.imported.reply e.imported.is e.imported.at e.imported.leaves
       by SinkFailed e = done e.imported.world e.imported.reply e.imported.is e.imported.at e.imported.leaves
       by SourceFailed e = nothing e.1.at e.1.leaves

@@ -11,7 +11,7 @@ use Rattle.tier_journal.specs.KeptOver.{KeepsOver}
 use Rattle.cache_tier.specs.declared.reply.Reply.{Reply}
 use Rattle.cache_tier.specs.TierStates.{Settings}
 use Rattle.cache_tier.specs.Worlds.{IsUnshared, World}
-use Rattle.tier_opening.specs.Opening.{MayOpen}
+use Rattle.tier_opening.specs.Opening.{MayOpen, Onset}
 use Rattle.cache_engine.specs.Opening.{Opens}
 use Rattle.cache_engine.specs.Requests.{Given, LineRun}
 use Rattle.session_cli.specs.declared.serving.Status.{Status}
@@ -43,9 +43,9 @@ LeavesSite {D = D} state possible ends =
 -- The same of a run of the program that was opened and ended with the status 0, and of what its site holds then.
 abbrev pub RunsLeaveSites : {D : Type 0} → (D → SiteState) → (D → ℕ → Held → Type 0) → Type 0
 RunsLeaveSites {D = D} state possible =
-    (settings : Settings) (there left : Held) (start input : List ℕ) (written written' : Option (List ℕ))
-    (coming coming' : Coming) (d d' : D) (source : Option (List ℕ))
-    (x : OpenedAndEnded Finished settings there start input (seen written coming state possible d) source
+    (onset : Onset) (settings : Settings) (there left : Held) (start input : List ℕ)
+    (written written' : Option (List ℕ)) (coming coming' : Coming) (d d' : D) (source : Option (List ℕ))
+    (x : OpenedAndEnded onset Finished settings there start input (seen written coming state possible d) source
     (seen written' coming' state possible d')) (alone : IsLeftAlone (begins x.world start coming) input)
     → MayOpenAgain (state d).shared there → IsUnshared (x.ended alone).outcome.answered.last
     → (state d').held ≡ Some left → MayOpenAgain (state d').shared left
@@ -53,9 +53,9 @@ RunsLeaveSites {D = D} state possible =
 -- The same of the command `import` that was opened, whether its rows were imported or refused, or nothing was done.
 abbrev pub ImportsLeaveSites : {D : Type 0} → (D → SiteState) → (D → ℕ → Held → Type 0) → Type 0
 ImportsLeaveSites {D = D} state possible =
-    (status : Status) (settings : Settings) (there left : Held) (word input : List ℕ)
+    (onset : Onset) (status : Status) (settings : Settings) (there left : Held) (word input : List ℕ)
     (written written' : Option (List ℕ)) (coming coming' : Coming) (d d' : D) (source : Option (List ℕ))
-    → OpenedAndImported status settings there word input (seen written coming state possible d) source
+    → OpenedAndImported onset status settings there word input (seen written coming state possible d) source
     (seen written' coming' state possible d')
     → MayOpenAgain (state d).shared there → (state d').held ≡ Some left → MayOpenAgain (state d').shared left
 

@@ -2,12 +2,13 @@
 -- recovery as the TimesTen Cache User's Guide, "Recovery", tells of it.)
 
 use Rattle.std.proofs.Common.{inl, inr}
-use Rattle.std.specs.Prelude.{◌≡◌, ◌⊎◌, ℕ, ◌≤◌, List, [], ◌∷◌, Option, Some}
+use Rattle.std.specs.Prelude.{◌≡◌, ◌⊎◌, ℕ, ◌≤◌, List, [], ◌∷◌, Option, Some, take}
 use Rattle.tier_base.specs.declared.number.TableId.{TableId}
 use Rattle.table_defs.specs.declared.definition.TableDef.{TableDef}
 use Rattle.table_state.specs.declared.history.Entry.{Entry}
 use Rattle.table_state.specs.Histories.{state_of}
 use Rattle.table_state.specs.Tables.{TableState}
+use Rattle.outside.specs.Calls.{Certain}
 use Rattle.outside.specs.Holding.{Held}
 use Rattle.outside.specs.Sites.{SiteState}
 use Rattle.cache_tier.specs.declared.reply.Reply.{Reply}
@@ -18,6 +19,8 @@ use Rattle.tier_journal.specs.Leaving.{GivesEntries}
 use Rattle.tier_journal.specs.KeptOver.{IsLeftOver, KeepsOver}
 use Rattle.tier_journal.specs.Ways.{HasBecome}
 use Rattle.recovery.specs.SafeWays.{IsSafe, LeaveUnshared}
+use Rattle.tier_opening.specs.Leaving.{EndsEarly, IsAsFound, LeftSince}
+use Rattle.tier_opening.specs.Opening.{AtOpening, Onset, onset_history, onset_moment}
 use Rattle.cache_engine.specs.Opening.{Opens}
 use Rattle.cache_engine.specs.Requests.{Given, LineRun}
 use Rattle.session_cli.specs.declared.answering.Stop.{Stop}
@@ -27,8 +30,8 @@ use Rattle.session_cli.specs.declared.serving.Status.TheVariants.{Damaged, Diffe
 use Rattle.session_cli.specs.declared.serving.Status.TheVariants.{LineUnchecked, NoMemory, SchemaFailed, SinkFailed}
 use Rattle.session_cli.specs.declared.serving.Status.TheVariants.{SourceFailed}
 use Rattle.session_cli.specs.Cutting.{all_lines, ended_lines}
-use Rattle.session_cli.specs.Ends.{OpenedAndEnded, Outcome}
-use Rattle.session_cli.specs.Importing.{OpenedAndImported}
+use Rattle.session_cli.specs.Ends.{OpenedAndEnded, Outcome, Unopened}
+use Rattle.session_cli.specs.Importing.{ImportUnopened, OpenedAndImported}
 use Rattle.session_cli.specs.Opening.{begins}
 use Rattle.session_cli.specs.Outside.{WasKept, seen}
 use Rattle.session_cli.specs.Serving.{Answered, Broken, EndBroken, HasFlushed, IsLeftAlone, LineBroken, Origin, Rests, StopsAt}
@@ -73,7 +76,12 @@ CrashesAreSafe state possible d schema asked w (g ∷ lines) (reply ∷ replies)
     LeavesSafe state possible d w schema asked
     × CrashesAreSafe state possible d schema asked run.0 lines replies w' run.2
 
--- since the world in which the tier began over the journal that was found, and in the run
+-- the world in which the tier began, at the moment and with the history where the way of its journal begins
+abbrev pub was_in : {settings : Settings} {moment : ℕ} {there : Held} {w : World} → Opens settings moment there w
+    → World
+was_in x = record x.begun { moment = x.begins.since; history = take x.begins.from x.begun.history }
+
+-- since that way began, and in the run
 abbrev pub OpeningIsSafe : {D : Type 0} (state : D → SiteState) (possible : D → ℕ → Held → Type 0) (d : D)
     (schema : List TableDef) (asked : Asking) (begun w : World) (lines : List Given) (replies : List (Option Reply))
     (w' : World) → LineRun w lines replies w' → Type 0
@@ -91,7 +99,8 @@ CrashesWithinAreSafe {D = D} state possible ends =
     → MayOpenAgain o.world.shared there
     → (a : Answered ends o lines replies (state d) (KeepsOver state possible d) (WasKept state possible))
     → (state d).held ≡ Some left → state_of left.history ≡ Some s
-    → OpeningIsSafe state possible d s.schema (LeaveAlone a.ran) x.begun o.world a.comes.given replies a.ran a.comes.run
+    → OpeningIsSafe state possible d s.schema (LeaveAlone a.ran) (was_in x) o.world a.comes.given replies a.ran
+    a.comes.run
 
 -- ---- where a call of the journal's disk failed
 
@@ -105,7 +114,7 @@ BrokenLinesAreSafe {D = D} state possible =
     → MayOpenAgain o.world.shared there
     → (b : LineBroken o lines replies (state d) (WasKept state possible) (IsLeftOver state possible d))
     → (state d).held ≡ Some left → state_of left.history ≡ Some s
-    → OpeningIsSafe state possible d s.schema (LeaveUnshared (state d).shared) x.begun o.world b.comes.run.before
+    → OpeningIsSafe state possible d s.schema (LeaveUnshared (state d).shared) (was_in x) o.world b.comes.run.before
     b.comes.run.told b.comes.run.mid b.comes.run.run
 
 -- the same of a run that ended with the flush at the end of its input, in which such a call failed
@@ -116,7 +125,7 @@ BrokenEndsAreSafe {D = D} state possible =
     → MayOpenAgain o.world.shared there
     → (b : EndBroken o lines replies (state d) (WasKept state possible) (IsLeftOver state possible d))
     → (state d).held ≡ Some left → state_of left.history ≡ Some s
-    → OpeningIsSafe state possible d s.schema (LeaveUnshared (state d).shared) x.begun o.world b.comes.given b.told
+    → OpeningIsSafe state possible d s.schema (LeaveUnshared (state d).shared) (was_in x) o.world b.comes.given b.told
     b.ran b.comes.run
 
 -- ---- a run of the program
@@ -191,16 +200,26 @@ OutcomeIsSafe state possible d written coming schema begun NoMemory o given x = 
 OutcomeIsSafe state possible d written coming schema begun Damaged o given x = Unit {0}
 OutcomeIsSafe state possible d written coming schema begun Differs o given x = Unit {0}
 
--- Of each run of the program that was opened over a site that might be opened, whatever the status with which it ended.
--- An opened run ends with none of the last five.
+-- the world in which the tier began, as it was when the run did, or where the journal was found
+abbrev pub as_begun : Onset → ℕ → Held → World → World
+as_begun onset moment there begun =
+    record begun {
+      moment = onset_moment onset moment begun.moment;
+      history = onset_history onset there.history begun.history;
+    }
+
+-- Of each run of the program that was opened over a site that might be opened, whatever the status with which it ended:
+-- since the run began, where a crash left just what the site told then, and else since the journal was found. An opened
+-- run ends with none of the last five.
 abbrev pub RunsAreSafe : {D : Type 0} → (D → SiteState) → (D → ℕ → Held → Type 0) → Type 0
 RunsAreSafe {D = D} state possible =
-    (status : Status) (settings : Settings) (there left : Held) (s : TableState) (start input : List ℕ)
+    (onset : Onset) (status : Status) (settings : Settings) (there left : Held) (s : TableState) (start input : List ℕ)
     (written written' : Option (List ℕ)) (coming coming' : Coming) (d d' : D) (source : Option (List ℕ))
-    (x : OpenedAndEnded status settings there start input (seen written coming state possible d) source
+    (x : OpenedAndEnded onset status settings there start input (seen written coming state possible d) source
     (seen written' coming' state possible d')) (alone : IsLeftAlone (begins x.world start coming) input)
     → MayOpenAgain (state d).shared there → (state d').held ≡ Some left → state_of left.history ≡ Some s
-    → OutcomeIsSafe state possible d' written' coming' s.schema x.opens.begun status (begins x.world start coming)
+    → OutcomeIsSafe state possible d' written' coming' s.schema
+    (as_begun onset (state d).moment there x.opens.begun) status (begins x.world start coming)
     (x.ended alone).taken.given (x.ended alone).outcome
 
 -- ---- in the command `import`
@@ -209,13 +228,52 @@ RunsAreSafe {D = D} state possible =
 abbrev pub AskNothing : Asking
 AskNothing entries history = Unit {0}
 
--- So it is, since the opening found the journal, in the command `import` that was opened over a site that might be
--- opened, whether its rows were imported or refused, or nothing was done; nothing is asked of others then.
+-- So it is in the command `import` that was opened over a site that might be opened, whether its rows were imported or
+-- refused, or nothing was done; nothing is asked of others then.
 abbrev pub ImportsAreSafe : {D : Type 0} → (D → SiteState) → (D → ℕ → Held → Type 0) → Type 0
 ImportsAreSafe {D = D} state possible =
-    (status : Status) (settings : Settings) (there left : Held) (s : TableState) (word input : List ℕ)
+    (onset : Onset) (status : Status) (settings : Settings) (there left : Held) (s : TableState) (word input : List ℕ)
     (written written' : Option (List ℕ)) (coming coming' : Coming) (d d' : D) (source : Option (List ℕ))
-    → (x : OpenedAndImported status settings there word input (seen written coming state possible d) source
+    → (x : OpenedAndImported onset status settings there word input (seen written coming state possible d) source
     (seen written' coming' state possible d'))
     → MayOpenAgain (state d).shared there → (state d').held ≡ Some left → state_of left.history ≡ Some s
-    → LeavesSafe state possible d' x.opens.begun s.schema AskNothing
+    → LeavesSafe state possible d' (as_begun onset (state d).moment there x.opens.begun) s.schema AskNothing
+
+-- ---- where nothing was opened
+
+-- The site is as it was found, but for transactions of others, and a tier may be opened over it.
+pub record IsFoundAgain (shared : List TableId) (o p : Held) : Type 0 where
+  pub found : IsAsFound shared o p
+  pub may : MayOpenAgain shared p
+
+-- What a crash has left of a site with this, at each moment since an opening began that failed: the site as it was
+-- found; or what holds each commit that was held then, and over which a tier may be opened.
+abbrev pub EarlyEndIsSafe : {D : Type 0} (state : D → SiteState) (possible : D → ℕ → Held → Type 0) (d d' : D)
+    (there : Held) (schema : List TableDef) (settings : Settings) (moment : ℕ)
+    → EndsEarly settings moment there (state d) (state d') (LeftSince state possible d') (IsLeftOver state possible d')
+    → Type 0
+EarlyEndIsSafe state possible d d' there schema settings moment (inl found) =
+    LeftSince state possible d' (state d).moment (IsFoundAgain (state d).shared there)
+EarlyEndIsSafe state possible d d' there schema settings moment (inr x) =
+    LeavesSafe state possible d' (as_begun AtOpening (state d).moment there x.begun) schema AskNothing
+
+-- So it is of each run that wasn't opened, over a site that might be opened, where a crash left just what the site told
+-- as the run began. Nothing is asked of others.
+abbrev pub UnopenedRunsAreSafe : {D : Type 0} → (D → SiteState) → (D → ℕ → Held → Type 0) → Type 0
+UnopenedRunsAreSafe {D = D} state possible =
+    (status : Status) (settings : Settings) (there left : Held) (s : TableState) (input : List ℕ)
+    (written written' : Option (List ℕ)) (coming coming' : Coming) (d d' : D) (source : Option (List ℕ))
+    (u : Unopened status settings there input (seen written coming state possible d) source
+    (seen written' coming' state possible d')) (sure : Certain state possible d there)
+    → MayOpenAgain (state d).shared there → (state d').held ≡ Some left → state_of left.history ≡ Some s
+    → EarlyEndIsSafe state possible d d' there s.schema settings u.moment (u.leaves sure)
+
+-- and of each `import`
+abbrev pub UnopenedImportsAreSafe : {D : Type 0} → (D → SiteState) → (D → ℕ → Held → Type 0) → Type 0
+UnopenedImportsAreSafe {D = D} state possible =
+    (status : Status) (settings : Settings) (there left : Held) (s : TableState) (input : List ℕ)
+    (written written' : Option (List ℕ)) (coming coming' : Coming) (d d' : D) (source : Option (List ℕ))
+    (u : ImportUnopened status settings there input (seen written coming state possible d) source
+    (seen written' coming' state possible d')) (sure : Certain state possible d there)
+    → MayOpenAgain (state d).shared there → (state d').held ≡ Some left → state_of left.history ≡ Some s
+    → EarlyEndIsSafe state possible d d' there s.schema settings u.moment (u.leaves sure)

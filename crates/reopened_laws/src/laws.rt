@@ -15,6 +15,7 @@ ghost use Rattle.cache_engine.specs.Opening.{Opens};
 ghost use Rattle.cache_engine.specs.Requests.{Given, LineRun};
 ghost use Rattle.session_cli.specs.Serving.{HasFlushed, Rests};
 ghost use Rattle.reopened_laws.specs.Within.{BrokenEndsAreSafe, BrokenLinesAreSafe, CrashesWithinAreSafe, ImportsAreSafe, RunsAreSafe};
+ghost use Rattle.reopened_laws.specs.Within.{UnopenedImportsAreSafe, UnopenedRunsAreSafe};
 ghost use Rattle.reopened_laws.specs.Ending.{CrashesLeaveSites, ImportsLeaveSites, LeavesSite, RunsLeaveSites};
 ghost use Rattle.reopened_laws.specs.Leaving.{GoesOnThrough, IsKeptAt, IsLeftAt};
 
@@ -71,11 +72,15 @@ pub fn crash_law<P: Site>()
 /// each commit that was held where the last line before began, or the flush behind the last one. And a tier may be
 /// opened over what is left, where others change no table of a writethrough group behind the last line. Where all lines
 /// were answered that is said of the site as it is at the end, whether the tail was flushed (`flushed`) or wasn't
-/// (`rests`); and so it is since the opening found the journal, with the commits that it told of. Where a call of the
-/// journal's disk failed in the last line (`broken`), or in the flush at the end of the input (`unflushed`), it is said
-/// of the site as it is then, and of the call that failed, too; there a tier may be opened where others change no table
-/// of a writethrough group that the entries there leave. So it is of a run of the program that was opened, whatever its
-/// status (`program`), and of the command `import` that was opened, with nothing asked of others (`imports`).
+/// (`rests`); and so it is since the way of its journal began, with the commits that were held then. Where a call of
+/// the journal's disk failed in the last line (`broken`), or in the flush at the end of the input (`unflushed`), it is
+/// said of the site as it is then, and of the call that failed, too; there a tier may be opened where others change no
+/// table of a writethrough group that the entries there leave. So it is of a run of the program that was opened,
+/// whatever its status (`program`), and of the command `import` that was opened, with nothing asked of others
+/// (`imports`): since it began, in its opening too, where a crash left just what the site told then, and else since the
+/// journal was found. A run and an `import` that weren't opened leave a site over which a tier may be opened, at each
+/// moment since they began: as it was found, but for transactions of others, or with each commit that was held
+/// (`unopened`, `unimported`).
 pub fn within_law<P: Site>()
     ensures flushed { CrashesWithinAreSafe P.Disk.state P.Disk.possible HasFlushed }
     ensures rests { CrashesWithinAreSafe P.Disk.state P.Disk.possible Rests }
@@ -83,4 +88,6 @@ pub fn within_law<P: Site>()
     ensures unflushed { BrokenEndsAreSafe P.Disk.state P.Disk.possible }
     ensures program { RunsAreSafe P.Disk.state P.Disk.possible }
     ensures imports { ImportsAreSafe P.Disk.state P.Disk.possible }
+    ensures unopened { UnopenedRunsAreSafe P.Disk.state P.Disk.possible }
+    ensures unimported { UnopenedImportsAreSafe P.Disk.state P.Disk.possible }
 {}

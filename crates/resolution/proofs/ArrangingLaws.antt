@@ -2,7 +2,7 @@
 
 use Rattle.std.proofs.Common.{◌≡◌, refl, ℕ, zero, suc, List, [], ◌∷◌, ◌++◌, drop, length, map, slice_set, ap, ◌∙◌}
 use Rattle.std.proofs.lemmas.List.{length-map, map-append, map-set}
-use Rattle.expressions.specs.declared.expression.Expr.{Expr}
+use Rattle.evaluator.specs.expressions.specs.declared.expression.Expr.{Expr}
 use Rattle.resolution.specs.Assignments.{arranged, put_first}
 use Rattle.resolution.specs.Placing.{PlacedExpression, expression_seen, expressions_seen}
 

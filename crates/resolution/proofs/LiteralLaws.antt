@@ -1,17 +1,17 @@
 -- The value of a literal is of the family of its form.
 
-use Rattle.std.proofs.Common.{◌≡◌, refl, subst, ℕ, List, [], ◌∷◌, Option, Some, None, Bool, true, false, ◌&&◌, if◌then◌else◌, length, ℤ}
+use Rattle.std.proofs.Common.{◌≡◌, refl, subst, ℕ, List, [], ◌∷◌, Option, Some, None, Bool, true, false, if◌then◌else◌, length, ℤ}
 use Rattle.std.specs.Prelude.{nat_le}
 use Rattle.std.specs.Option.{option_map}
-use Rattle.row_types.specs.declared.value.Value.{Value}
-use Rattle.row_types.specs.declared.value.Value.TheVariants as value
-use Rattle.numbers.specs.Decimals.{Decimal}
-use Rattle.numbers.specs.NumberTexts.{number_read}
-use Rattle.row_types.specs.Literals.{held_text}
-use Rattle.row_types.specs.TimeTexts.{time_of}
-use Rattle.expressions.specs.declared.typing.Family.{Family}
-use Rattle.expressions.specs.declared.typing.Family.TheVariants.{Number, Characters, Datetime}
-use Rattle.expressions.specs.Types.{family_of_value}
+use Rattle.evaluator.specs.row_types.specs.declared.value.Value.{Value}
+use Rattle.evaluator.specs.row_types.specs.declared.value.Value.TheVariants as value
+use Rattle.sql_query.specs.numbers.specs.Decimals.{Decimal}
+use Rattle.sql_query.specs.numbers.specs.NumberTexts.{number_read}
+use Rattle.evaluator.specs.row_types.specs.Literals.{held_text}
+use Rattle.evaluator.specs.row_types.specs.TimeTexts.{time_of}
+use Rattle.evaluator.specs.expressions.specs.declared.typing.Family.{Family}
+use Rattle.evaluator.specs.expressions.specs.declared.typing.Family.TheVariants.{Number, Characters, Datetime}
+use Rattle.evaluator.specs.expressions.specs.Types.{family_of_value}
 use Rattle.sql_query.specs.declared.literal.Literal.{Literal}
 use Rattle.sql_query.specs.declared.literal.Literal.TheVariants as written
 use Rattle.sql_query.specs.Literals.{signed_digits, value_of}

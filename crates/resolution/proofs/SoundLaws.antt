@@ -3,7 +3,7 @@
 use Rattle.std.proofs.Common.{◌≡◌, refl, List, [], ◌∷◌, ◌++◌, map, ap, sym, ◌∙◌}
 use Rattle.std.proofs.lemmas.List.{map-append}
 use Rattle.std.specs.Prelude.{Result, Ok, Err}
-use Rattle.row_types.specs.declared.rule.Rule.{Rule}
+use Rattle.evaluator.specs.row_types.specs.declared.rule.Rule.{Rule}
 use Rattle.evaluator.specs.declared.change.Change.{Change}
 use Rattle.evaluator.specs.Rules.{then_do}
 use Rattle.resolution.specs.Results.{then_make}

@@ -2,22 +2,22 @@
 
 use Rattle.std.proofs.Common.{◌≡◌, ℕ, List, [], Option, Bool, ◌&&◌, ◌||◌, map, ap, sym, ◌∙◌, subst}
 use Rattle.std.specs.Prelude.{Result, Ok}
-use Rattle.tier_base.specs.declared.code.Code.TheVariants.{KeyColumnSet}
-use Rattle.row_types.specs.declared.column.Column.{Column}
-use Rattle.row_types.specs.declared.rule.Rule.{Rule}
-use Rattle.expressions.specs.declared.condition.Cond.{Cond}
-use Rattle.expressions.specs.declared.expression.Expr.{Expr}
-use Rattle.expressions.specs.Types.{family_of}
+use Rattle.evaluator.specs.tier_base.specs.declared.code.Code.TheVariants.{KeyColumnSet}
+use Rattle.evaluator.specs.row_types.specs.declared.column.Column.{Column}
+use Rattle.evaluator.specs.row_types.specs.declared.rule.Rule.{Rule}
+use Rattle.evaluator.specs.expressions.specs.declared.condition.Cond.{Cond}
+use Rattle.evaluator.specs.expressions.specs.declared.expression.Expr.{Expr}
+use Rattle.evaluator.specs.expressions.specs.Types.{family_of}
 use Rattle.sql_query.specs.declared.write.Assignment.{Assignment}
 use Rattle.sql_query.specs.declared.write.Delete.{Delete as DeleteStatement}
 use Rattle.sql_query.specs.declared.write.Insert.{Insert as InsertStatement}
 use Rattle.sql_query.specs.declared.write.Update.{Update as UpdateStatement}
 use Rattle.sql_query.specs.Trees.{ExpressionTree}
-use Rattle.table_defs.specs.declared.definition.TableDef.{TableDef}
+use Rattle.evaluator.specs.table_defs.specs.declared.definition.TableDef.{TableDef}
 use Rattle.evaluator.specs.Rules.{unless}
 use Rattle.resolution.specs.Assignments.{arranged, key_column_of, suit_columns}
 use Rattle.resolution.specs.Literals.{some_unheld, unheld_in_filter}
-use Rattle.resolution.specs.Placing.{PlacedCondition, expressions_seen, filter_seen, placed_filter, placed_list}
+use Rattle.resolution.specs.Placing.{expressions_seen, filter_seen, placed_filter, placed_list}
 use Rattle.resolution.specs.Results.{judged}
 use Rattle.resolution.specs.Scopes.{SeenColumn, families}
 use Rattle.resolution.specs.WrittenTypes.{has_sound_filter, is_sound_filter, written_families}

@@ -3,14 +3,14 @@
 use Rattle.std.specs.Prelude.{ℕ, List, [], ◌∷◌, ◌++◌, Option, Some, None, Bool, true, false, ◌&&◌, drop, nat_eq, position, find, slice_get, slice_set, Result, Ok, Err, if◌then◌else◌}
 use Rattle.std.specs.List.{list_any}
 use Rattle.std.specs.Option.{option_and_then, option_map}
-use Rattle.tier_base.specs.declared.code.Code.{Code}
-use Rattle.tier_base.specs.declared.code.Code.TheVariants as code
-use Rattle.row_types.specs.declared.column.Column.{Column}
-use Rattle.row_types.specs.declared.rule.Rule.{Rule}
-use Rattle.expressions.specs.declared.typing.Family.{Family}
-use Rattle.expressions.specs.Types.{agrees, family_of_type}
-use Rattle.table_defs.specs.declared.definition.TableDef.{TableDef}
-use Rattle.table_defs.specs.Names.{same_name}
+use Rattle.evaluator.specs.tier_base.specs.declared.code.Code.{Code}
+use Rattle.evaluator.specs.tier_base.specs.declared.code.Code.TheVariants as code
+use Rattle.evaluator.specs.row_types.specs.declared.column.Column.{Column}
+use Rattle.evaluator.specs.row_types.specs.declared.rule.Rule.{Rule}
+use Rattle.evaluator.specs.expressions.specs.declared.typing.Family.{Family}
+use Rattle.evaluator.specs.expressions.specs.Types.{agrees, family_of_type}
+use Rattle.evaluator.specs.table_defs.specs.declared.definition.TableDef.{TableDef}
+use Rattle.evaluator.specs.table_defs.specs.Names.{same_name}
 use Rattle.evaluator.specs.Rules.{about, then_do}
 
 -- the column of this name, by its name alone

@@ -6,3 +6,6 @@ pub mod Results
 pub mod Scopes
 pub mod WrittenTypes
 pub mod Writes
+pub use Rattle.sql_query.specs.numbers
+pub use Rattle.evaluator.specs.expressions
+pub use Rattle.evaluator

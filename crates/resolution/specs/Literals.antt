@@ -4,10 +4,10 @@
 use Rattle.std.specs.Prelude.{ℕ, List, [], ◌∷◌, Option, Some, None, Bool, false, ◌||◌, unwrap_or, pos}
 use Rattle.std.specs.List.{list_any}
 use Rattle.std.specs.Option.{is_none}
-use Rattle.row_types.specs.declared.value.Value.{Value}
-use Rattle.row_types.specs.declared.value.Value.TheVariants as value
-use Rattle.expressions.specs.declared.typing.Family.{Family}
-use Rattle.expressions.specs.declared.typing.Family.TheVariants.{Number, Characters, Datetime}
+use Rattle.evaluator.specs.row_types.specs.declared.value.Value.{Value}
+use Rattle.evaluator.specs.row_types.specs.declared.value.Value.TheVariants as value
+use Rattle.evaluator.specs.expressions.specs.declared.typing.Family.{Family}
+use Rattle.evaluator.specs.expressions.specs.declared.typing.Family.TheVariants.{Number, Characters, Datetime}
 use Rattle.sql_query.specs.declared.literal.Literal.{Literal}
 use Rattle.sql_query.specs.declared.literal.Literal.TheVariants as written
 use Rattle.sql_query.specs.Literals.{value_of}

@@ -2,14 +2,14 @@
 -- first name, in the order of the text, that fits no column or two.
 
 use Rattle.std.specs.Prelude.{ℕ, List, [], ◌∷◌, Option, Some, None, Bool, true, false, map, Result, Ok}
-use Rattle.row_types.specs.declared.rule.Rule.{Rule}
-use Rattle.row_types.specs.declared.value.Value.{Value}
-use Rattle.expressions.specs.declared.condition.Comparator.{Comparator}
-use Rattle.expressions.specs.declared.condition.Cond.{Cond}
-use Rattle.expressions.specs.declared.condition.Cond.TheVariants as cond
-use Rattle.expressions.specs.declared.expression.Arithmetic.{Arithmetic}
-use Rattle.expressions.specs.declared.expression.Expr.{Expr}
-use Rattle.expressions.specs.declared.expression.Expr.TheVariants as expr
+use Rattle.evaluator.specs.row_types.specs.declared.rule.Rule.{Rule}
+use Rattle.evaluator.specs.row_types.specs.declared.value.Value.{Value}
+use Rattle.evaluator.specs.expressions.specs.declared.condition.Comparator.{Comparator}
+use Rattle.evaluator.specs.expressions.specs.declared.condition.Cond.{Cond}
+use Rattle.evaluator.specs.expressions.specs.declared.condition.Cond.TheVariants as cond
+use Rattle.evaluator.specs.expressions.specs.declared.expression.Arithmetic.{Arithmetic}
+use Rattle.evaluator.specs.expressions.specs.declared.expression.Expr.{Expr}
+use Rattle.evaluator.specs.expressions.specs.declared.expression.Expr.TheVariants as expr
 use Rattle.sql_query.specs.Trees.{ConditionTree, ExpressionTree}
 use Rattle.sql_query.specs.Trees as tree
 use Rattle.evaluator.specs.Rules.{then_do}

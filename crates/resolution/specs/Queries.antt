@@ -4,12 +4,12 @@
 use Rattle.std.specs.Prelude.{ℕ, suc, List, [], ◌∷◌, Option, Some, None, Bool, true, false, ◌&&◌, ◌||◌, map, Result, Ok}
 use Rattle.std.specs.List.{list_all}
 use Rattle.std.specs.Result.{is_ok}
-use Rattle.tier_base.specs.declared.code.Code.{Code}
-use Rattle.tier_base.specs.declared.number.TableId.{TableId}
-use Rattle.row_types.specs.declared.rule.Rule.{Rule}
-use Rattle.expressions.specs.declared.typing.Family.{Family}
-use Rattle.expressions.specs.declared.typing.Family.TheVariants.{Number}
-use Rattle.expressions.specs.Types.{agrees}
+use Rattle.evaluator.specs.tier_base.specs.declared.code.Code.{Code}
+use Rattle.evaluator.specs.tier_base.specs.declared.number.TableId.{TableId}
+use Rattle.evaluator.specs.row_types.specs.declared.rule.Rule.{Rule}
+use Rattle.evaluator.specs.expressions.specs.declared.typing.Family.{Family}
+use Rattle.evaluator.specs.expressions.specs.declared.typing.Family.TheVariants.{Number}
+use Rattle.evaluator.specs.expressions.specs.Types.{agrees}
 use Rattle.sql_query.specs.declared.literal.Literal.TheVariants.{Null}
 use Rattle.sql_query.specs.declared.query.Aggregate.{Aggregate as NamedAggregate}
 use Rattle.sql_query.specs.declared.query.Aggregate.TheVariants as written
@@ -20,14 +20,14 @@ use Rattle.sql_query.specs.declared.query.SelectItem.TheVariants as item
 use Rattle.sql_query.specs.declared.query.SelectList.{SelectList}
 use Rattle.sql_query.specs.declared.query.SelectList.TheVariants.{Everything, Expressions, Aggregates, Mixed}
 use Rattle.sql_query.specs.Trees.{ExpressionTree, Constant}
-use Rattle.table_defs.specs.declared.definition.TableDef.{TableDef}
+use Rattle.evaluator.specs.table_defs.specs.declared.definition.TableDef.{TableDef}
 use Rattle.evaluator.specs.declared.aggregate.Aggregate.{Aggregate}
 use Rattle.evaluator.specs.declared.aggregate.Aggregate.TheVariants as total
 use Rattle.evaluator.specs.declared.plan.Plan.{Plan}
 use Rattle.evaluator.specs.Rules.{then_do}
 use Rattle.resolution.specs.declared.resolved.ResolvedQuery.{ResolvedQuery}
 use Rattle.resolution.specs.declared.resolved.ResolvedQuery.TheVariants.{Rows, Totals}
-use Rattle.resolution.specs.Literals.{has_unheld, some_unheld, unheld_in_filter}
+use Rattle.resolution.specs.Literals.{some_unheld, unheld_in_filter}
 use Rattle.resolution.specs.Placing.{PlacedCondition, PlacedExpression, Column, expressions_seen, filter_seen, placed_filter, placed_list}
 use Rattle.resolution.specs.Results.{both, judged, then_make}
 use Rattle.resolution.specs.Scopes.{SeenColumn, placed_column, scope_of, tables_of}

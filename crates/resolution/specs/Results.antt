@@ -1,12 +1,12 @@
 -- Results that may be a broken rule. The first broken rule counts.
 
 use Rattle.std.specs.Prelude.{◌≡◌, Bool, true, false, Result, Ok, Err}
-use Rattle.tier_base.specs.declared.code.Code.TheVariants as code
-use Rattle.row_types.specs.declared.rule.Detail.TheVariants as detail
-use Rattle.row_types.specs.declared.rule.Rule.{Rule}
-use Rattle.row_types.specs.declared.rule.Refused.{Refused}
-use Rattle.row_types.specs.declared.rule.Refused.TheVariants as refused
-use Rattle.evaluator.specs.Rules.{about, then_do}
+use Rattle.evaluator.specs.tier_base.specs.declared.code.Code.TheVariants as code
+use Rattle.evaluator.specs.row_types.specs.declared.rule.Detail.TheVariants as detail
+use Rattle.evaluator.specs.row_types.specs.declared.rule.Rule.{Rule}
+use Rattle.evaluator.specs.row_types.specs.declared.rule.Refused.{Refused}
+use Rattle.evaluator.specs.row_types.specs.declared.rule.Refused.TheVariants as refused
+use Rattle.evaluator.specs.Rules.{then_do}
 
 -- 104
 abbrev pub mismatch : Rule

@@ -3,17 +3,17 @@
 
 use Rattle.std.specs.Prelude.{ℕ, ◌==◌, List, [], ◌∷◌, ◌++◌, Option, Some, None, Bool, ◌||◌, map, position, count_by, slice_get, unwrap_or, Result, Ok, Err, if◌then◌else◌}
 use Rattle.std.specs.List.{flat_map}
-use Rattle.std.specs.Option.{option_and_then, option_map}
-use Rattle.tier_base.specs.declared.code.Code.TheVariants as code
-use Rattle.tier_base.specs.declared.number.TableId.{TableId}
-use Rattle.row_types.specs.declared.column.Column.{Column}
-use Rattle.row_types.specs.declared.rule.Rule.{Rule}
+use Rattle.std.specs.Option.{option_and_then}
+use Rattle.evaluator.specs.tier_base.specs.declared.code.Code.TheVariants as code
+use Rattle.evaluator.specs.tier_base.specs.declared.number.TableId.{TableId}
+use Rattle.evaluator.specs.row_types.specs.declared.column.Column.{Column}
+use Rattle.evaluator.specs.row_types.specs.declared.rule.Rule.{Rule}
 use Rattle.sql_query.specs.declared.query.FromTable.{FromTable}
-use Rattle.table_defs.specs.declared.definition.TableDef.{TableDef}
-use Rattle.table_defs.specs.Names.{place_of_table, same_name}
+use Rattle.evaluator.specs.table_defs.specs.declared.definition.TableDef.{TableDef}
+use Rattle.evaluator.specs.table_defs.specs.Names.{place_of_table, same_name}
 use Rattle.evaluator.specs.Rules.{about}
-use Rattle.expressions.specs.declared.typing.Family.{Family}
-use Rattle.expressions.specs.Types.{family_of_type}
+use Rattle.evaluator.specs.expressions.specs.declared.typing.Family.{Family}
+use Rattle.evaluator.specs.expressions.specs.Types.{family_of_type}
 use Rattle.resolution.specs.declared.scope.Seen.{Seen}
 use Rattle.resolution.specs.Results.{both}
 

@@ -1,12 +1,12 @@
 -- What the names of a write stand for. (TimesTen SQL Reference, "INSERT", "UPDATE", "DELETE"; the codes and their order
 -- are this project's rule.)
 
-use Rattle.std.specs.Prelude.{ℕ, suc, List, [], ◌∷◌, ◌++◌, Option, Some, None, Bool, ◌&&◌, ◌||◌, map, Result, Ok, Err, slice_get}
-use Rattle.tier_base.specs.declared.code.Code.TheVariants as code
-use Rattle.tier_base.specs.declared.number.TableId.{TableId}
-use Rattle.row_types.specs.declared.column.Column.{Column}
-use Rattle.row_types.specs.declared.rule.Rule.{Rule}
-use Rattle.row_types.specs.declared.value.Value.TheVariants.{Null}
+use Rattle.std.specs.Prelude.{ℕ, suc, List, [], ◌∷◌, ◌++◌, Option, Some, None, ◌&&◌, ◌||◌, map, Result, Ok, Err, slice_get}
+use Rattle.evaluator.specs.tier_base.specs.declared.code.Code.TheVariants as code
+use Rattle.evaluator.specs.tier_base.specs.declared.number.TableId.{TableId}
+use Rattle.evaluator.specs.row_types.specs.declared.column.Column.{Column}
+use Rattle.evaluator.specs.row_types.specs.declared.rule.Rule.{Rule}
+use Rattle.evaluator.specs.row_types.specs.declared.value.Value.TheVariants.{Null}
 use Rattle.sql_query.specs.declared.write.Assignment.{Assignment}
 use Rattle.sql_query.specs.declared.write.Delete.{Delete as DeleteStatement}
 use Rattle.sql_query.specs.declared.write.Insert.{Insert as InsertStatement}
@@ -14,8 +14,8 @@ use Rattle.sql_query.specs.declared.write.Update.{Update as UpdateStatement}
 use Rattle.sql_query.specs.declared.write.Write.{Write}
 use Rattle.sql_query.specs.declared.write.Write.TheVariants as write
 use Rattle.sql_query.specs.Trees.{ExpressionTree}
-use Rattle.table_defs.specs.declared.definition.TableDef.{TableDef}
-use Rattle.table_defs.specs.Names.{place_of_table}
+use Rattle.evaluator.specs.table_defs.specs.declared.definition.TableDef.{TableDef}
+use Rattle.evaluator.specs.table_defs.specs.Names.{place_of_table}
 use Rattle.evaluator.specs.declared.change.Action.{Action}
 use Rattle.evaluator.specs.declared.change.Action.TheVariants as action
 use Rattle.evaluator.specs.declared.change.Change.{Change}

@@ -2,14 +2,14 @@
 -- is of numbers. (TimesTen SQL Reference, "Expressions" and "Comparison predicate"; without conversion, which is this
 -- project's rule.)
 
-use Rattle.std.specs.Prelude.{ℕ, List, Option, Some, None, Bool, true, ◌&&◌, map, Result, Ok, slice_get}
+use Rattle.std.specs.Prelude.{List, Option, Some, None, Bool, true, ◌&&◌, map, Result, Ok, slice_get}
 use Rattle.std.specs.List.{list_all}
 use Rattle.std.specs.Option.{option_and_then}
 use Rattle.std.specs.Result.{is_ok}
-use Rattle.tier_base.specs.declared.code.Code.{Code}
-use Rattle.expressions.specs.declared.condition.Cond.{Cond}
-use Rattle.expressions.specs.declared.typing.Family.{Family}
-use Rattle.expressions.specs.Types.{agrees, has_sound_types, of_both}
+use Rattle.evaluator.specs.tier_base.specs.declared.code.Code.{Code}
+use Rattle.evaluator.specs.expressions.specs.declared.condition.Cond.{Cond}
+use Rattle.evaluator.specs.expressions.specs.declared.typing.Family.{Family}
+use Rattle.evaluator.specs.expressions.specs.Types.{agrees, has_sound_types, of_both}
 use Rattle.sql_query.specs.Trees.{ConditionTree, ExpressionTree, Constant, Column, Binary, Compared, Missing, Between, Among, Not, All, Any}
 use Rattle.resolution.specs.Literals.{family_of_literal}
 use Rattle.resolution.specs.Scopes.{SeenColumn, families, place_in}

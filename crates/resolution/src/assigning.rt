@@ -1,19 +1,19 @@
 //! The columns that an INSERT or a SET names, and the row of expressions that they make.
 
 ghost use Rattle.std.specs.Prelude.{◌≡◌, [], IfOk, Ok, drop, find, map, option_copied, slice_set};
-ghost use Rattle.table_defs.specs.Names.{same_name};
-ghost use Rattle.expressions.specs.Types.{agrees, family_of};
+ghost use Rattle.evaluator.specs.table_defs.specs.Names.{same_name};
+ghost use Rattle.evaluator.specs.expressions.specs.Types.{agrees, family_of};
 ghost use Rattle.resolution.specs.Assignments.{arranged, column_named, family_at, is_place, key_column_of, put_first, suit_columns, target_of, targets_behind};
 ghost use Rattle.resolution.specs.Placing.{expression_seen, expressions_seen};
 ghost use Rattle.resolution.specs.Results.{Gives};
 ghost use Rattle.resolution.specs.Writes.{all_places, insert_targets};
 
 use crate::refusing::about;
-use expressions::{Expr, Family, family_of, family_of_type, suits};
-use row_types::{Column, Refused};
+use evaluator::expressions::{Expr, Family, family_of, family_of_type, suits};
+use evaluator::row_types::{Column, Refused};
+use evaluator::table_defs::TableDef;
+use evaluator::tier_base::{Code, Name, Seq};
 use std::alloc::{AllocError, Global};
-use table_defs::TableDef;
-use tier_base::{Code, Name, Seq};
 
 /// The place of the column of this name, which isn't among those before.
 ///

@@ -3,13 +3,13 @@
 ghost use Rattle.std.specs.Prelude.{◌≡◌, ◌&&◌, IfOk, List, map};
 ghost use Rattle.std.specs.List.{list_all};
 ghost use Rattle.std.specs.Result.{is_ok};
-ghost use Rattle.expressions.specs.declared.typing.Family.{Family as OneFamily};
-ghost use Rattle.expressions.specs.Types.{agrees, family_of, has_sound_types, of_both};
+ghost use Rattle.evaluator.specs.expressions.specs.declared.typing.Family.{Family as OneFamily};
+ghost use Rattle.evaluator.specs.expressions.specs.Types.{agrees, family_of, has_sound_types, of_both};
 ghost use Rattle.resolution.specs.Placing.{And, Binary, In, Not, Or, condition_seen, expression_seen, expressions_seen, negated_if};
 
-use expressions::{Arithmetic, Cond, Expr};
+use evaluator::expressions::{Arithmetic, Cond, Expr};
+use evaluator::tier_base::Seq;
 use std::alloc::{AllocError, Global};
-use tier_base::Seq;
 
 /// An operation on two expressions.
 pub(crate) fn binary(

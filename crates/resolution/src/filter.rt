@@ -9,11 +9,11 @@ ghost use Rattle.resolution.specs.WrittenTypes.{is_sound_filter};
 
 use crate::placing::{has_sound_filter, place_filter};
 use crate::scope::{columns_seen, families};
-use expressions::Cond;
-use row_types::{Column, Refused};
+use evaluator::expressions::Cond;
+use evaluator::row_types::{Column, Refused};
+use evaluator::tier_base::Name;
 use sql_query::Condition;
 use std::alloc::Global;
-use tier_base::Name;
 
 /// A condition whose names are found, and what is to be judged of it.
 pub struct ResolvedFilter {

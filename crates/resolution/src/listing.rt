@@ -3,8 +3,8 @@
 ghost use Rattle.std.specs.Prelude.{◌≡◌, ◌||◌, IfOk, Ok, OnOk, Some, map};
 ghost use Rattle.std.specs.List.{list_all};
 ghost use Rattle.std.specs.Result.{is_ok};
-ghost use Rattle.expressions.specs.Types.{agrees, family_of};
-ghost use Rattle.expressions.specs.declared.typing.Family.TheVariants.{Number};
+ghost use Rattle.evaluator.specs.expressions.specs.Types.{agrees, family_of};
+ghost use Rattle.evaluator.specs.expressions.specs.declared.typing.Family.TheVariants.{Number};
 ghost use Rattle.resolution.specs.Literals.{has_unheld, some_unheld};
 ghost use Rattle.resolution.specs.Placing.{expression_seen, expressions_seen, placed_expression, placed_list};
 ghost use Rattle.resolution.specs.Queries.{operand_of, placed_item, placed_order, placed_selected, places_from, suit_totals, suits_families, suits_total, total_of, totals_of, tree_of_item, written_list};
@@ -15,11 +15,11 @@ ghost use Rattle.resolution.specs.WrittenTypes.{written_families, written_family
 use crate::placing::{place_expression, place_list};
 use crate::scope::{Seen, placed_column};
 use evaluator::Aggregate;
-use expressions::{Expr, Family, family_of, is_numeric};
-use row_types::{Refused, Value};
+use evaluator::expressions::{Expr, Family, family_of, is_numeric};
+use evaluator::row_types::{Refused, Value};
+use evaluator::tier_base::{Code, Seq};
 use sql_query::{Aggregate as NamedAggregate, OrderItem, SelectItem, SelectList};
 use std::alloc::{AllocError, Global};
-use tier_base::{Code, Seq};
 
 /// The select list: all columns, its expressions, or the operands of its aggregates. `unheld` becomes true where no
 /// type holds some literal of it.

@@ -1,7 +1,7 @@
 //! Expressions and conditions with places in place of names.
 
 ghost use Rattle.std.specs.Prelude.{◌≡◌, ◌||◌, IfOk, OnOk, map};
-ghost use Rattle.expressions.specs.Types.{family_of, family_of_value, has_sound_types};
+ghost use Rattle.evaluator.specs.expressions.specs.Types.{family_of, family_of_value, has_sound_types};
 ghost use Rattle.std.specs.Option.{is_none};
 ghost use Rattle.sql_query.specs.Literals.{value_of};
 ghost use Rattle.resolution.specs.Literals.{any_of, family_of_literal, family_of_text, has_unheld, some_unheld, standing_for, unheld_in_filter, unheld_within};
@@ -12,8 +12,8 @@ ghost use Rattle.resolution.specs.WrittenTypes.{has_sound_filter, is_sound, is_s
 
 use crate::building::{binary, conjunction, disjunction, membership, negated_if, negation};
 use crate::scope::{Seen, placed_column};
-use expressions::{Cond, Expr, Family, has_sound_types};
-use row_types::{Refused, Text, Time, Value};
+use evaluator::expressions::{Cond, Expr, Family, has_sound_types};
+use evaluator::row_types::{Refused, Text, Time, Value};
 use sql_query::{Condition, ConditionNode, Expression, ExpressionNode, Literal};
 use std::alloc::{AllocError, Global};
 

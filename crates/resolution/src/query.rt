@@ -1,7 +1,7 @@
 //! What the names of a query stand for.
 
 ghost use Rattle.std.specs.Prelude.{◌≡◌, ◌&&◌, IfOk, [], map};
-ghost use Rattle.expressions.specs.Types.{family_of};
+ghost use Rattle.evaluator.specs.expressions.specs.Types.{family_of};
 ghost use Rattle.resolution.specs.Placing.{expressions_seen, filter_seen};
 ghost use Rattle.resolution.specs.Queries.{planned, query_seen, resolved_in, resolved_query, suits_families};
 ghost use Rattle.resolution.specs.Results.{Gives, judged};
@@ -14,12 +14,12 @@ use crate::refusing::{mismatch, no_type};
 use crate::resolved::ResolvedQuery;
 use crate::scope::{Seen, families, scope_of, tables_of};
 use evaluator::Plan;
-use expressions::{Cond, Expr};
-use row_types::Refused;
+use evaluator::expressions::{Cond, Expr};
+use evaluator::row_types::Refused;
+use evaluator::table_defs::BackingSchema;
+use evaluator::tier_base::{Seq, TableId};
 use sql_query::{Query, SelectList};
 use std::alloc::{AllocError, Global};
-use table_defs::BackingSchema;
-use tier_base::{Seq, TableId};
 
 /// The query with places in place of names, over the tables of the schema. It has no GROUP BY, which isn't done yet.
 ///

@@ -4,9 +4,9 @@ ghost use Rattle.std.specs.Prelude.{◌≡◌, IfOk};
 ghost use Rattle.evaluator.specs.Rules.{about};
 ghost use Rattle.resolution.specs.Results.{IsRefusal, mismatch, no_type};
 
-use row_types::{Detail, Refused, Rule};
+use evaluator::row_types::{Detail, Refused, Rule};
+use evaluator::tier_base::{Code, Name};
 use std::alloc::{AllocError, Global};
-use tier_base::{Code, Name};
 
 /// 104: types that don't suit, or another number of values than wanted.
 pub(crate) fn mismatch() -> Rule

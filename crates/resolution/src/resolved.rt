@@ -1,8 +1,8 @@
 //! Queries with places in place of names.
 
+use evaluator::row_types::Rule;
+use evaluator::tier_base::Seq;
 use evaluator::{Aggregate, Plan};
-use row_types::Rule;
-use tier_base::Seq;
 
 /// What is judged of a write whose names are known: the write, or the rule that it breaks.
 pub(crate) type Judged<T> = Result<T, Rule>;

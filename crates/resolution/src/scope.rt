@@ -1,17 +1,17 @@
 //! The columns that a statement sees, and their names.
 
 ghost use Rattle.std.specs.Prelude.{◌≡◌, ◌++◌, ◌∷◌, IfOk, OnOk, count_by, option_copied, position};
-ghost use Rattle.table_defs.specs.Names.{same_name};
+ghost use Rattle.evaluator.specs.table_defs.specs.Names.{same_name};
 ghost use Rattle.resolution.specs.Results.{Gives};
 ghost use Rattle.resolution.specs.Scopes.{columns_seen, families, fits, name_seen, place_in, placed_column, scope_of, shown, shown_column, table_named, tables_of};
 
 use crate::refusing::about;
-use expressions::{Family, family_of_type};
-use row_types::{Column, Refused};
+use evaluator::expressions::{Family, family_of_type};
+use evaluator::row_types::{Column, Refused};
+use evaluator::table_defs::{BackingSchema, TableDef, find_table};
+use evaluator::tier_base::{Code, Name, Seq, TableId};
 use sql_query::FromTable;
 use std::alloc::{AllocError, Global};
-use table_defs::{BackingSchema, TableDef, find_table};
-use tier_base::{Code, Name, Seq, TableId};
 
 /// A column that a statement sees.
 #[derive(Clone, Copy)]

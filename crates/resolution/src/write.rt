@@ -1,9 +1,9 @@
 //! What the names of a write stand for.
 
 ghost use Rattle.std.specs.Prelude.{◌≡◌, ◌&&◌, ◌||◌, [], IfOk, OnOk, map};
-ghost use Rattle.tier_base.specs.declared.code.Code.TheVariants.{KeyColumnSet};
+ghost use Rattle.evaluator.specs.tier_base.specs.declared.code.Code.TheVariants.{KeyColumnSet};
 ghost use Rattle.evaluator.specs.Rules.{unless};
-ghost use Rattle.expressions.specs.Types.{family_of};
+ghost use Rattle.evaluator.specs.expressions.specs.Types.{family_of};
 ghost use Rattle.resolution.specs.Literals.{some_unheld};
 ghost use Rattle.resolution.specs.Placing.{expressions_seen, filter_seen};
 ghost use Rattle.resolution.specs.Assignments.{arranged, key_column_of, suit_columns};
@@ -19,13 +19,13 @@ use crate::placing::{has_sound_filter, place_expression, place_filter, place_lis
 use crate::refusing::{about, mismatch, no_type, rule_about};
 use crate::resolved::Judged;
 use crate::scope::{Seen, columns_seen, families};
+use evaluator::expressions::{Cond, Expr};
+use evaluator::row_types::{Column, Refused, Value};
+use evaluator::table_defs::{BackingSchema, TableDef, find_table};
+use evaluator::tier_base::{Code, Name, Seq, TableId};
 use evaluator::{Action, Change};
-use expressions::{Cond, Expr};
-use row_types::{Column, Refused, Value};
 use sql_query::{Assignment, Delete, Insert, Update, Write};
 use std::alloc::{AllocError, Global};
-use table_defs::{BackingSchema, TableDef, find_table};
-use tier_base::{Code, Name, Seq, TableId};
 
 /// The write with places in place of names, over the tables of the schema.
 ///

@@ -21,10 +21,12 @@ pub use declaration::{
 };
 pub use key::Key;
 pub use literal::{held_text, parse_literal};
+pub use numbers;
 pub use printing::{print, print_into, print_key_into, print_values_into};
 pub use row::Row;
 pub use rule::{Detail, Letter, Refused, Rule};
 pub use text::Text;
+pub use tier_base;
 pub use time::Time;
 pub use truth::Truth;
 pub use value::{Value, compare, order, value_order};

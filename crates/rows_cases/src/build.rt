@@ -1,14 +1,14 @@
 // What the tests make tables, rows and conditions of.
 
 ghost use Rattle.std.specs.Prelude.{IfOk};
-ghost use Rattle.table_state.specs.Keyed.{IsKeyed};
+ghost use Rattle.evaluator.specs.table_state.specs.Keyed.{IsKeyed};
 
-use expressions::{Comparator, Cond, Expr};
-use row_types::{Column, Row, Ty, Value, print_values_into};
+use evaluator::expressions::{Comparator, Cond, Expr};
+use evaluator::row_types::{Column, Row, Ty, Value, print_values_into};
+use evaluator::table_defs::{ForeignKey, TableDef};
+use evaluator::table_state::{Entry, Op, Tables};
+use evaluator::tier_base::{Name, Seq, TableId};
 use std::alloc::{AllocError, Global};
-use table_defs::{ForeignKey, TableDef};
-use table_state::{Entry, Op, Tables};
-use tier_base::{Name, Seq, TableId};
 
 pub const A: TableId = TableId(0);
 

@@ -1,14 +1,14 @@
 // Calls that no line reaches. The contract of each says what it answers; here each answers, where memory is ample.
 
 use crate::build::{A, inserts, name, tables};
+use evaluator::row_types::{ColumnDeclaration, TableDeclaration, TypeDeclaration};
+use evaluator::table_state::{Entry, Sealed};
+use evaluator::tier_base::{Seq, Ticket};
 use instances::{Root, Tree, view};
-use row_types::{ColumnDeclaration, TableDeclaration, TypeDeclaration};
 use sql_print::print::{print_table, print_writes};
-use sql_query::{Delete, Write};
+use sql_print::sql_query::{Delete, Write};
 use std::alloc::{AllocError, Global};
 use std::test::Fail;
-use table_state::{Entry, Sealed};
-use tier_base::{Seq, Ticket};
 
 fn is_table_printed(alloc: Global) -> Result<bool, AllocError> {
     let column = ColumnDeclaration {

@@ -1,7 +1,7 @@
 -- A line, and a list of lines, with a journal that is the tier's; and what a crash leaves behind each of them. (This
 -- project's rule, over recovery as the TimesTen Cache User's Guide tells of it.)
 
-use Rattle.std.specs.Prelude.{◌≡◌, ◌⊎◌, ℕ, true, false, List, [], ◌∷◌, ◌++◌, Option, Some, None, length}
+use Rattle.std.specs.Prelude.{◌≡◌, ℕ, true, false, List, [], ◌∷◌, ◌++◌, Option}
 use Rattle.tier_base.specs.declared.code.Code.TheVariants as code
 use Rattle.table_state.specs.declared.history.Sealed.{Sealed}
 use Rattle.cache_tier.specs.declared.reply.Reply.{Reply}
@@ -14,6 +14,7 @@ use Rattle.cache_tier.specs.Worlds.{IsUnshared, World}
 use Rattle.line_laws.specs.Keeping.{IsBrokenOff, is_broken}
 use Rattle.recovery.specs.Journalled.{CrashLeaves, IsJournalled, IsJournalledOn}
 use Rattle.recovery.specs.Recalling.{recalled}
+use Rattle.recovery.specs.SafeWays.{HasSafeWay}
 use Rattle.run_laws.specs.Lines.{AreOfKinds, IsLeft, MayBegin, MayGoOn}
 
 -- Where a line may begin and the journal is the tier's, and behind it the tier stands or a ticket is in doubt: the
@@ -82,18 +83,12 @@ KeepsThrough w early (line ∷ lines) (reply ∷ replies) w' =
 KeepsThrough w early [] (reply ∷ replies) w' = ⊥
 KeepsThrough w early (line ∷ lines) [] w' = ⊥
 
--- no way is asked for yet, or one begins in this world
-abbrev pub BeginsWay : World → Type 0
-BeginsWay w =
-    (w.journal.way ≡ None)
-    ⊎ (w.journal.way ≡ Some (record { since = w.moment; from = length w.history; past = [] }))
-
--- A world's journal has these entries, all of them flushed, and its way begins there.
+-- A world's journal has these entries, all of them flushed, and each point of its way is safe.
 pub record IsKeptOf (entries : List JournalEntry) (w : World) : Type 0 where
   pub kept : w.journal.kept ≡ true
   pub flushed : w.journal.flushed ≡ entries
   pub tail : w.journal.tail ≡ []
-  pub way : BeginsWay w
+  pub way : HasSafeWay w w.journal.way
 
 -- A tier that was opened again: its journal is its own, and what was held is held; others change no table of a live
 -- writethrough group still; and what is written is of one kind.
@@ -101,3 +96,9 @@ pub record Reopened (w : World) (early : List Sealed) : Type 0 where
   pub on : IsJournalledOn w early
   pub unshared : IsUnshared w
   pub kinds : AreOfKinds w.tier
+
+-- An opening came to an end, whatever end it was: the journal is the tier's there, and what was held is held; and
+-- others change no table of a live writethrough group still.
+pub record StoodOpening (w : World) (early : List Sealed) : Type 0 where
+  pub on : IsJournalledOn w early
+  pub unshared : IsUnshared w

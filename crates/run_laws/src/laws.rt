@@ -13,7 +13,7 @@ ghost use Rattle.recovery.specs.Reopening.{IsReopened};
 ghost use Rattle.recovery_laws.specs.Crashes.{AreHeld};
 ghost use Rattle.line_laws.specs.Keeping.{IsBrokenOff, is_broken};
 ghost use Rattle.run_laws.specs.Lines.{IsLeft, MayBegin};
-ghost use Rattle.run_laws.specs.Runs.{IsKeptOf, KeepsOn, KeepsThrough, Reopened, RunsOn, StepBreaksJournal, StepKeepsJournal, StepKeepsKinds, Survives};
+ghost use Rattle.run_laws.specs.Runs.{IsKeptOf, KeepsOn, KeepsThrough, Reopened, RunsOn, StepBreaksJournal, StepKeepsJournal, StepKeepsKinds, StoodOpening, Survives};
 
 /// A line, whatever it says, keeps the journal the tier's, and what was held is held (`journal`). What is unsettled is
 /// on tables of asynchronous groups behind it, and each session has written tables of synchronous groups alone, or of
@@ -47,10 +47,11 @@ pub fn flush_law()
         → Finishes w w' stop → is_broken stop ≡ true → IsBrokenOff w' early }
 {}
 
-/// The tier that is opened again over a journal whose entries are all flushed keeps it: the journal is its own behind
-/// the opening, which writes nothing to it, and what the entries and the history hold is held (`reopens`). So it is
-/// after a crash between two lines, over the entries that were flushed then: all that was held is held (`again`). A run
-/// may begin there.
+/// The tier that is opened again over a journal whose entries are all flushed, and each point of whose way is safe,
+/// keeps it: the journal is its own behind the opening, which writes nothing to it, and what the entries and the
+/// history hold is held (`reopens`). So it is after a crash between two lines, over the entries that were flushed then:
+/// all that was held is held (`again`). A run may begin there. Where the opening's round or one of its readings stopped
+/// it with a reply, the journal is the tier's there, too, and what was held is held (`stops`).
 pub fn reopened_law()
     ensures reopens { (settings : Settings) (moment : ℕ) (entries : List JournalEntry) (w w' : World)
         (early : List Sealed) (x : IsReopened settings moment entries w w' None) → IsKeptOf entries w
@@ -58,4 +59,8 @@ pub fn reopened_law()
     ensures again { (w v v' : World) (early : List Sealed) (settings : Settings) (moment : ℕ) → IsLeft w
         → IsJournalled w early → v.history ≡ w.history → IsKeptOf w.journal.flushed v → IsUnshared v
         → IsReopened settings moment w.journal.flushed v v' None → Reopened v' early }
+    ensures stops { (settings : Settings) (moment : ℕ) (entries : List JournalEntry) (w w' : World)
+        (early : List Sealed) (stop : Option Reply) (x : IsReopened settings moment entries w w' stop)
+        → IsKeptOf entries w → AreHeld (notes_of x.matched.backing.schema entries) w.history early → IsUnshared w
+        → StoodOpening w' early }
 {}

@@ -1,6 +1,6 @@
 -- How many lines a script has.
-use Rattle.std.proofs.Common.{◌≡◌, ℕ, zero, suc, ◌+◌, ◌^◌, ◌<◌, ◌≤◌, List, length, refl, ap, arith, length-append}
-use Rattle.script_maker.specs.Script.{closing, drawn, drawn_lines, opening, script_lines}
+use Rattle.std.proofs.Common.{◌≡◌, ℕ, zero, suc, ◌+◌, ◌^◌, ◌<◌, ◌≤◌, length, refl, ap, arith, length-append}
+use Rattle.script_maker.specs.Script.{drawn, drawn_lines, script_lines}
 
 length_drawn : (count number x : ℕ) → length (drawn_lines count number x) ≡ count
 unfolding drawn_lines

@@ -15,6 +15,7 @@ use Rattle.session_cli.specs.declared.serving.Status.{Status}
 use Rattle.session_cli.specs.declared.serving.Status.TheVariants.{Finished, SourceFailed, SinkFailed, DiskFailed, SchemaFailed, NoMemory, LineUnchecked, Damaged, Differs, InputTooLong}
 use Rattle.session_cli.specs.Cutting.{ended_lines, all_lines}
 use Rattle.session_cli.specs.Ends.{Ended, Gives, OpenedAndEnded, Outcome, Runs, Stops, Taken, Unopened, input_limit, status_of, takes_none}
+use Rattle.cache_engine.specs.OfTierOpening.Opening.{Onset}
 use Rattle.session_cli.specs.Opening.{begins}
 use Rattle.session_cli.specs.Outside.{Outside}
 use Rattle.session_cli.specs.Serving.{HasFlushed, IsLeftAlone, Origin, Rests, Serving, StopsAt, Whole}
@@ -69,16 +70,18 @@ outcome_then NoMemory o given now coming x = absurd x
 outcome_then Damaged o given now coming x = absurd x
 outcome_then Differs o given now coming x = absurd x
 
-opened_then : (settings : TierSettings) (status : Status) (there : Held) (start input : List ℕ) (source' : Option (List ℕ)) (before behind : Outside) (coming : Coming)
-    → Unopened status settings input before source' behind ⊎ OpenedAndEnded status settings there start input before source' behind
-    → Unopened status settings input before source' (record behind { coming = coming }) ⊎ OpenedAndEnded status settings there start input before source' (record behind { coming = coming })
-opened_then settings status there start input source' before behind coming (inl u) = inl (record { untaken = u.untaken; why = u.why; tells = u.tells; moment = u.moment; next = u.next; failed = u.failed })
-opened_then settings status there start input source' before behind coming (inr x) =
+opened_then : (onset : Onset) (settings : TierSettings) (status : Status) (there : Held) (start input : List ℕ) (source' : Option (List ℕ)) (before behind : Outside) (coming : Coming)
+    → Unopened status settings there input before source' behind ⊎ OpenedAndEnded onset status settings there start input before source' behind
+    → Unopened status settings there input before source' (record behind { coming = coming }) ⊎ OpenedAndEnded onset status settings there start input before source' (record behind { coming = coming })
+opened_then onset settings status there start input source' before behind coming (inl u) =
+    inl (record { untaken = u.untaken; why = u.why; tells = u.tells; moment = u.moment; next = u.next; failed = u.failed; leaves = u.leaves })
+opened_then onset settings status there start input source' before behind coming (inr x) =
     inr (record {
       first = x.first;
       next = x.next;
       world = x.world;
       opens = x.opens;
+      starts = x.starts;
       kept = x.kept;
       later = x.later;
       shares = x.shares;
@@ -90,8 +93,8 @@ opened_then settings status there start input source' before behind coming (inr 
 
 pub runs_then : (settings : TierSettings) (status : Status) (source source' : Option (List ℕ)) (before behind : Outside) (coming : Coming) → Runs settings status source before source' behind
     → Runs settings status source before source' (record behind { coming = coming })
-runs_then settings status source source' before behind coming runs = λ input start there is_source is_sink is_site have may.
-    opened_then settings status there start input source' before behind coming (runs input start there is_source is_sink is_site have may)
+runs_then settings status source source' before behind coming runs = λ onset input start there is_source is_sink is_site have sure may.
+    opened_then onset settings status there start input source' before behind coming (runs onset input start there is_source is_sink is_site have sure may)
 
 -- the bases of a run are those by its settings
 pub runs_based : (settings : TierSettings) (status : Status) (source source' : Option (List ℕ)) (before behind : Outside) (bases coming : Coming) → before.coming ≡ bases → Runs settings status source before source' behind

@@ -1,5 +1,5 @@
 -- The command `import`.
-use Rattle.std.proofs.Common.{◌≡◌, ◌⊎◌, ◌+◌, ◌-◌, ◌≤◌, ◌<◌, ℕ, true, List, [], ◌∷◌, ◌++◌, take, length, Option, Some, None, Result, Ok, Err, inl, inr, refl, sym, ◌∙◌, ap, arith, subst, append-nil, append_assoc}
+use Rattle.std.proofs.Common.{◌≡◌, ◌+◌, ◌-◌, ◌≤◌, ◌<◌, ℕ, true, List, [], ◌∷◌, ◌++◌, take, length, Option, Some, None, Result, Ok, Err, inl, inr, refl, sym, ◌∙◌, ap, arith, subst, append-nil, append_assoc}
 use Rattle.std.proofs.lemmas.List.{length-append}
 use Rattle.std.specs.Io.KnownBytes.{Appends, Keeps}
 use Rattle.std.specs.Result.{OnOk}
@@ -25,16 +25,18 @@ use Rattle.stored_tier.specs.Sites.{IsAt, Serves}
 use Rattle.stored_tier.specs.Stored.{IsStoredAs, pace_of}
 use Rattle.session_engine.specs.Doubting.{IsLeft}
 use Rattle.session_engine.specs.declared.doubt.Doubt.{Doubt}
-use Rattle.tier_opening.specs.Telling.{FailsAs}
-use Rattle.tier_opening.specs.declared.opening.OpenError.{OpenError}
-use Rattle.tier_opening.specs.declared.opening.OpenError.TheVariants as open_error
+use Rattle.commit_journal.specs.Layout.{HaveBytes}
+use Rattle.cache_engine.specs.OfTierOpening.Leaving.{EndsEarly}
+use Rattle.cache_engine.specs.OfTierOpening.Telling.{FailsAs}
+use Rattle.cache_engine.specs.OfTierOpening.LeftLaws.{found_here}
+use Rattle.cache_engine.specs.OfTierOpening.declared.opening.OpenError.{OpenError}
+use Rattle.cache_engine.specs.OfTierOpening.declared.opening.OpenError.TheVariants as open_error
 use Rattle.cache_engine.specs.Importing.{Imports, ImportsRead, inserts_for}
 use Rattle.cache_engine.specs.Opening.{OpensOver}
 use Rattle.cache_engine.specs.declared.engine.Engine.{Engine}
 use Rattle.session_cli.specs.declared.serving.Status.{Status}
 use Rattle.session_cli.specs.declared.serving.Status.TheVariants.{DiskFailed, InputTooLong, NoMemory, SchemaFailed, SourceFailed}
 use Rattle.session_cli.specs.Importing.{ImportEnds, ImportRuns, Imported, ImportsNothing, Puts, TakesAll, TellsImport}
-use Rattle.session_cli.specs.Opening.{TellsWhy}
 use Rattle.session_cli.specs.Outside.{Outside, seen}
 use Rattle.reply_lines.specs.Output.{Breaks, Passes, Splits}
 use Rattle.session_cli.specs.Timing.{Coming, IsNext}
@@ -153,15 +155,16 @@ imported_cut (Err f) e word input bytes w sink sink' site is same x =
 -- THE ENGINE
 
 pub import_unopened : (settings : TierSettings) (word : List ℕ) (status : Status) (source : Option (List ℕ)) (before behind : Outside) (why : OpenError) → TellsImport status before.written behind.written why → (moment : ℕ) → IsNext (before.coming 0) moment → FailsAs moment (pace_of settings) before.site behind.site why
-    → ImportRuns settings word status source before source behind
-import_unopened settings word status source before behind why tells moment next failed = λ input there is_source is_site have may.
-    inl (record { untaken = is_source; why = why; tells = tells; moment = moment; next = next; failed = failed })
+    → ((there : Held) → before.certain there → HaveBytes there.slots → EndsEarly settings moment there before.site behind.site behind.left behind.leaves) → ImportRuns settings word status source before source behind
+import_unopened settings word status source before behind why tells moment next failed leaves = λ onset input there is_source is_site have sure may.
+    inl (record { untaken = is_source; why = why; tells = tells; moment = moment; next = next; failed = failed; leaves = λ certain. leaves there certain have })
 
-pub import_unstarted : (settings : TierSettings) (word : List ℕ) (source : Option (List ℕ)) (before behind : Outside) → behind.written ≡ before.written → ImportRuns settings word NoMemory source before source behind
-import_unstarted settings word source before behind written =
-    let next = next_of (before.coming 0) in
-    import_unopened settings word NoMemory source before behind open_error.Memory
-    (subst (λ w. TellsWhy NoMemory before.written w open_error.Memory) (sym written) (tells_memory before.written)) next.0 next.1 tt
+pub import_unstarted : {D : Type 0} (state : D → SiteState) (possible : D → ℕ → Held → Type 0) (settings : TierSettings) (word : List ℕ) (source written : Option (List ℕ)) (coming coming' : Coming) (d : D)
+    → ImportRuns settings word NoMemory source (seen written coming state possible d) source (seen written coming' state possible d)
+import_unstarted state possible settings word source written coming coming' d =
+    let next = next_of (coming 0) in
+    import_unopened settings word NoMemory source (seen written coming state possible d) (seen written coming' state possible d) open_error.Memory (tells_memory written) next.0 next.1 tt
+    (λ there certain have. inl (found_here state possible d (state d).shared there certain have))
 
 pub import_disk : (status : Status) (sink sink' : Option (List ℕ)) (why : OpenError) → TellsImport status sink sink' why → status ≡ DiskFailed → why ≡ open_error.Disk
 import_disk status sink sink' open_error.Disk tells is = refl
@@ -197,14 +200,15 @@ module _ {D : Type 0} (state : D → SiteState) (possible : D → ℕ → Held �
       → IsNext (bases 0) first → OpensOver state possible first pace d m e → e.doubt ≡ None → (state d).bank_faults ≤ (state m).bank_faults → (state m).shared ≡ (state d).shared
       → ((w : World) (input : List ℕ) → IsAt (state m) w → IsStoredAs e.tier w.tier → KeepsOver state possible m e.journal w → w.journal.kept ≡ true → source ≡ Some input → ImportEnds status word input w (seen written bases state possible d) source' behind)
       → ImportRuns settings word status source (seen written bases state possible d) source' behind
-  import_opened settings pace first e status word source source' written bases d m behind ms next opens doubt later shares ends = λ input there is_source is_site have may.
-      let x = opens there settings is_site have may ms in
+  import_opened settings pace first e status word source source' written bases d m behind ms next opens doubt later shares ends = λ onset input there is_source is_site have sure may.
+      let x = opens onset there settings is_site have sure may ms in
       let stands : StandsFor e.tier x.world = subst (λ (o : Option Doubt). IsLeft e.tier o x.world) doubt x.left in
       inr (record {
         first = first;
         next = next;
         world = x.world;
         opens = x.opens;
+        starts = x.starts;
         kept = x.kept;
         stands = stands.stands;
         certain = stands.stored.doubt;

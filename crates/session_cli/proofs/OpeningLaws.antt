@@ -8,10 +8,14 @@ use Rattle.outside.specs.Sites.{SiteState}
 use Rattle.cache_tier.specs.TierStates.{Settings as TierSettings}
 use Rattle.cache_engine.specs.Engines.{IsInOrder}
 use Rattle.cache_engine.specs.Opening.{IsBegunOver, OpensOver}
-use Rattle.tier_opening.specs.Telling.{FailsAs}
+use Rattle.cache_engine.specs.OfTierOpening.Opening.{Onset}
+use Rattle.commit_journal.specs.Layout.{HaveBytes}
+use Rattle.cache_engine.specs.OfTierOpening.Leaving.{EndsEarly}
+use Rattle.cache_engine.specs.OfTierOpening.Telling.{FailsAs}
+use Rattle.cache_engine.specs.OfTierOpening.LeftLaws.{found_here}
 use Rattle.cache_engine.specs.declared.engine.Engine.{Engine}
-use Rattle.tier_opening.specs.declared.opening.OpenError.{OpenError}
-use Rattle.tier_opening.specs.declared.opening.OpenError.TheVariants as open_error
+use Rattle.cache_engine.specs.OfTierOpening.declared.opening.OpenError.{OpenError}
+use Rattle.cache_engine.specs.OfTierOpening.declared.opening.OpenError.TheVariants as open_error
 use Rattle.session_cli.specs.declared.serving.Status.{Status}
 use Rattle.session_cli.specs.declared.serving.Status.TheVariants.{DiskFailed, NoMemory, SchemaFailed, SinkFailed, SourceFailed}
 use Rattle.session_cli.specs.declared.session.Session.{Session}
@@ -55,9 +59,9 @@ is_bank status sink sink' open_error.Memory (inl (e, told)) is = cc
 is_bank status sink sink' open_error.Memory (inr (e, told)) is = cc
 
 pub runs_unopened : (settings : TierSettings) (status : Status) (source : Option (List ℕ)) (before behind : Outside) (why : OpenError) → TellsWhy status before.written behind.written why → (moment : ℕ) → IsNext (before.coming 0) moment → FailsAs moment (pace_of settings) before.site behind.site why
-    → Runs settings status source before source behind
-runs_unopened settings status source before behind why tells moment next failed = λ input start there is_source is_sink is_site have may.
-    inl (record { untaken = is_source; why = why; tells = tells; moment = moment; next = next; failed = failed })
+    → ((there : Held) → before.certain there → HaveBytes there.slots → EndsEarly settings moment there before.site behind.site behind.left behind.leaves) → Runs settings status source before source behind
+runs_unopened settings status source before behind why tells moment next failed leaves = λ onset input start there is_source is_sink is_site have sure may.
+    inl (record { untaken = is_source; why = why; tells = tells; moment = moment; next = next; failed = failed; leaves = λ certain. leaves there certain have })
 
 -- the moment of an opening that didn't come to be
 pub next_of : (told : Option ℕ) → (moment : ℕ) × IsNext told moment
@@ -71,10 +75,10 @@ tells_memory sink = inl (refl, Appends-nil sink)
 pub tells_bank : (sink : Option (List ℕ)) → TellsWhy SchemaFailed sink sink open_error.Bank
 tells_bank sink = inl (refl, Appends-nil sink)
 
-pub runs_unstarted : (settings : TierSettings) (source : Option (List ℕ)) (before behind : Outside) → behind.written ≡ before.written → Runs settings NoMemory source before source behind
-runs_unstarted settings source before behind written =
-    let next = next_of (before.coming 0) in
-    runs_unopened settings NoMemory source before behind open_error.Memory (subst (λ w. TellsWhy NoMemory before.written w open_error.Memory) (sym written) (tells_memory before.written)) next.0 next.1 tt
+pub runs_unstarted : {D : Type 0} (state : D → SiteState) (possible : D → ℕ → Held → Type 0) (settings : TierSettings) (source written : Option (List ℕ)) (coming coming' : Coming) (d : D) → Runs settings NoMemory source (seen written coming state possible d) source (seen written coming' state possible d)
+runs_unstarted state possible settings source written coming coming' d =
+    let next = next_of (coming 0) in
+    runs_unopened settings NoMemory source (seen written coming state possible d) (seen written coming' state possible d) open_error.Memory (tells_memory written) next.0 next.1 tt (λ there certain have. inl (found_here state possible d (state d).shared there certain have))
 
 -- the causes
 
@@ -88,27 +92,27 @@ bank_failed moment pace before behind why failed is = subst (FailsAs moment pace
 
 module _ {D : Type 0} (state : D → SiteState) (possible : D → ℕ → Held → Type 0) where
   -- the engine is left so in the world of the opening
-  left_new : (settings : TierSettings) (first : ℕ) (there : Held) (d : D) (e : Engine) → IsInOrder e → (x : IsBegunOver state possible settings first there d e) → WasLeft (WasKept state possible) x.world
-  left_new settings first there d e order x = record { engine = e; order = order; left = x.left; kept = x.kept; over = kept_once state possible d e.journal x.world x.at x.keeps x.kept }
+  left_new : (onset : Onset) (settings : TierSettings) (first : ℕ) (before : SiteState) (there : Held) (d : D) (e : Engine) → IsInOrder e → (x : IsBegunOver state possible onset settings first before there d e) → WasLeft (WasKept state possible) x.world
+  left_new onset settings first before there d e order x = record { engine = e; order = order; left = x.left; kept = x.kept; over = kept_once state possible d e.journal x.world x.at x.keeps x.kept }
 
   -- and from it a way may begin
-  begins_new : (settings : TierSettings) (first : ℕ) (there : Held) (d : D) (e : Engine) (coming : Coming) (written : Option (List ℕ)) → IsInOrder e → (x : IsBegunOver state possible settings first there d e) → LedSince (StandsHere (seen written coming state possible d) e) x.world [] []
-  begins_new settings first there d e coming written order x =
+  begins_new : (onset : Onset) (settings : TierSettings) (first : ℕ) (before : SiteState) (there : Held) (d : D) (e : Engine) (coming : Coming) (written : Option (List ℕ)) → IsInOrder e → (x : IsBegunOver state possible onset settings first before there d e) → LedSince (StandsHere (seen written coming state possible d) e) x.world [] []
+  begins_new onset settings first before there d e coming written order x =
       let here : StandsHere (seen written coming state possible d) e x.world = record { at = x.at; stands = record { left = x.left; keeps = x.keeps; kept = x.kept; slots = in_slots state possible d e.journal x.world x.kept x.keeps } } in
       let begun = stands_begun_at state possible written coming d e x.world here in
       record { world = begun_here x.world; run = refl; goes = record { engine = e; order = order; left = begun.stands.left; kept = begun.stands.kept; over = tt }; is = begun }
 
   -- at the beginning nothing is given
-  serving_new : (settings : TierSettings) (first : ℕ) (there : Held) (d : D) (e : Engine) (session : Session) (start : List ℕ) (bases coming : Coming) (written : Option (List ℕ)) → IsInOrder e → (x : IsBegunOver state possible settings first there d e)
+  serving_new : (onset : Onset) (settings : TierSettings) (first : ℕ) (before : SiteState) (there : Held) (d : D) (e : Engine) (session : Session) (start : List ℕ) (bases coming : Coming) (written : Option (List ℕ)) → IsInOrder e → (x : IsBegunOver state possible onset settings first before there d e)
       → session.engine ≡ e → session.line ≡ [] → session.output ≡ [] → written ≡ Some start → AreLeft bases 1 coming → Serving (begins x.world start bases) [] (seen written coming state possible d) session
-  serving_new settings first there d e session start bases coming written order x engine line output told left = record {
+  serving_new onset settings first before there d e session start bases coming written order x engine line output told left = record {
     world = x.world;
     replies = [];
     comes = record { given = []; are = refl; asked = 1; timed = refl; run = refl };
-    goes = left_new settings first there d e order x;
+    goes = left_new onset settings first before there d e order x;
     at = x.at;
     stands = subst (λ y. StandsIn (seen written coming state possible d) y x.world) (sym engine) (record { left = x.left; keeps = x.keeps; kept = x.kept; slots = in_slots state possible d e.journal x.world x.kept x.keeps });
-    since = subst (λ y. LedSince (StandsHere (seen written coming state possible d) y) x.world [] []) (sym engine) (begins_new settings first there d e coming written order x);
+    since = subst (λ y. LedSince (StandsHere (seen written coming state possible d) y) x.world [] []) (sym engine) (begins_new onset settings first before there d e coming written order x);
     left = left;
     line = line ∙ sym (front_short [] (lit≤ tt));
     passed = record { count = 0; written = subst (λ w. Appends (Some start) w []) (sym told) (sym (append-nil start)); waits = output };
@@ -117,18 +121,19 @@ module _ {D : Type 0} (state : D → SiteState) (possible : D → ℕ → Held �
   pub runs_opened : (settings : TierSettings) (pace : Pace) (first : ℕ) (e : Engine) (session : Session) (status : Status) (source source' written : Option (List ℕ)) (bases coming : Coming) (d m : D) (behind : Outside) → pace_of settings ≡ pace
       → IsInOrder e → session.engine ≡ e → session.line ≡ [] → session.output ≡ [] → IsNext (bases 0) first → AreLeft bases 1 coming → OpensOver state possible first pace d m e → (state d).bank_faults ≤ (state m).bank_faults → (state m).shared ≡ (state d).shared
       → Serves session status source (seen written coming state possible m) source' behind → Runs settings status source (seen written bases state possible d) source' behind
-  runs_opened settings pace first e session status source source' written bases coming d m behind ms order engine line output next left opens later shares serves = λ input start there is_source is_sink is_site have may.
-      let x = opens there settings is_site have may ms in
+  runs_opened settings pace first e session status source source' written bases coming d m behind ms order engine line output next left opens later shares serves = λ onset input start there is_source is_sink is_site have sure may.
+      let x = opens onset there settings is_site have sure may ms in
       inr (record {
         first = first;
         next = next;
         world = x.world;
         opens = x.opens;
+        starts = x.starts;
         kept = x.kept;
         later = let faults = x.at.faults in omega (arith, later, faults);
         shares = x.at.shared ∙ shares;
-        left = left_new settings first there m e order x;
-        ended = λ alone. serves (begins x.world start bases) input is_source (serving_new settings first there m e session start bases coming written order x engine line output is_sink left) alone;
+        left = left_new onset settings first (state d) there m e order x;
+        ended = λ alone. serves (begins x.world start bases) input is_source (serving_new onset settings first (state d) there m e session start bases coming written order x engine line output is_sink left) alone;
       })
 
 -- THE LINE THAT SAYS WHY

@@ -1,5 +1,5 @@
 -- A run goes on by a line.
-use Rattle.std.proofs.Common.{◌≡◌, ◌+◌, ◌^◌, ◌<◌, ◌≤◌, ℕ, zero, suc, List, [], ◌∷◌, ◌++◌, Bool, true, false, Option, length, map, refl, sym, ◌∙◌, ap, arith, subst, append_assoc, append-nil}
+use Rattle.std.proofs.Common.{◌≡◌, ◌+◌, ℕ, List, [], ◌∷◌, ◌++◌, true, false, Option, map, refl, sym, ◌∙◌, ap, subst, append_assoc, append-nil}
 use Rattle.tier_base.specs.declared.number.TableId.{TableId}
 use Rattle.outside.specs.Others.{is_shared}
 use Rattle.outside.specs.Sites.{SiteState}

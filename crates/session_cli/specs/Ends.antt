@@ -9,10 +9,11 @@ use Rattle.commit_journal.specs.Layout.{HaveBytes}
 use Rattle.cache_tier.specs.TierStates.{Settings as TierSettings}
 use Rattle.cache_tier.specs.Worlds.{World}
 use Rattle.cache_engine.specs.Opening.{Opens}
-use Rattle.tier_opening.specs.Opening.{MayOpen}
+use Rattle.cache_engine.specs.OfTierOpening.Leaving.{EndsEarly}
+use Rattle.cache_engine.specs.OfTierOpening.Opening.{IsSure, MayOpen, Onset, StartsAt}
 use Rattle.stored_tier.specs.Stored.{pace_of}
-use Rattle.tier_opening.specs.Telling.{FailsAs}
-use Rattle.tier_opening.specs.declared.opening.OpenError.{OpenError}
+use Rattle.cache_engine.specs.OfTierOpening.Telling.{FailsAs}
+use Rattle.cache_engine.specs.OfTierOpening.declared.opening.OpenError.{OpenError}
 use Rattle.session_cli.specs.declared.answering.Stop.{Stop}
 use Rattle.session_cli.specs.declared.answering.Stop.TheVariants as stop
 use Rattle.session_cli.specs.declared.serving.Status.{Status}
@@ -125,8 +126,9 @@ Serves session status source before source' behind =
     → Ended status o input source' behind
 
 -- No engine was opened, and no line is answered: nothing of the source is taken. The sink is told why, and that has its
--- cause at the moment of the opening.
-pub record Unopened (status : Status) (settings : TierSettings) (input : List ℕ) (before : Outside)
+-- cause at the moment of the opening. Where a crash left just what the site told as the run began, it is told what a
+-- crash leaves.
+pub record Unopened (status : Status) (settings : TierSettings) (there : Held) (input : List ℕ) (before : Outside)
     (source : Option (List ℕ)) (behind : Outside) : Type 0 where
   pub untaken : source ≡ Some input
   pub why : OpenError
@@ -134,16 +136,18 @@ pub record Unopened (status : Status) (settings : TierSettings) (input : List �
   pub moment : ℕ
   pub next : IsNext (before.coming 0) moment
   pub failed : FailsAs moment (pace_of settings) before.site behind.site why
+  pub leaves : before.certain there → EndsEarly settings moment there before.site behind.site behind.left behind.leaves
 
 -- Before the first line the engine is opened, which may raise counts of faults, and in which transactions of others may
 -- come. The run begins in the world that this leaves, in which the engine is left so, and ends so where others change
--- no table of a group.
-pub record OpenedAndEnded (status : Status) (settings : TierSettings) (there : Held) (start input : List ℕ)
-    (before : Outside) (source : Option (List ℕ)) (behind : Outside) : Type 0 where
+-- no table of a group. The way of the journal begins as is asked.
+pub record OpenedAndEnded (onset : Onset) (status : Status) (settings : TierSettings) (there : Held)
+    (start input : List ℕ) (before : Outside) (source : Option (List ℕ)) (behind : Outside) : Type 0 where
   pub first : ℕ
   pub next : IsNext (before.coming 0) first
   pub world : World
   pub opens : Opens settings first there world
+  pub starts : StartsAt onset before.site.moment opens.begins
   pub kept : world.journal.kept ≡ true
   pub later : before.site.bank_faults ≤ world.bank_faults
   pub shares : world.shared ≡ before.site.shared
@@ -152,13 +156,14 @@ pub record OpenedAndEnded (status : Status) (settings : TierSettings) (there : H
       → Ended status (begins world start before.coming) input source behind
 
 -- Where source, sink and site tell what they hold, and the site's journal and history belong together, this is what the
--- run did, and what they tell afterwards. Its moments are counted from what the clock answers.
+-- run did, and what they tell afterwards. Its moments are counted from what the clock answers. What a crash leaves is
+-- told since the run began, where one left just what the site told then, and else since the journal was found.
 abbrev pub Runs : TierSettings → Status → Option (List ℕ) → Outside → Option (List ℕ) → Outside → Type 0
 Runs settings status source before source' behind =
-    (input start : List ℕ) (there : Held) → source ≡ Some input → before.written ≡ Some start
-    → before.site.held ≡ Some there → HaveBytes there.slots → MayOpen before.site.shared there
-    → Unopened status settings input before source' behind
-    ⊎ OpenedAndEnded status settings there start input before source' behind
+    (onset : Onset) (input start : List ℕ) (there : Held) → source ≡ Some input → before.written ≡ Some start
+    → before.site.held ≡ Some there → HaveBytes there.slots → IsSure onset before.certain there
+    → MayOpen before.site.shared there → Unopened status settings there input before source' behind
+    ⊎ OpenedAndEnded onset status settings there start input before source' behind
 
 -- Why a run doesn't begin: `clap` refuses the words, or it takes them and the settings are bad, or memory was wanting.
 abbrev pub Unstarted : List (List ℕ) → List ℕ → ℕ → Type 0

@@ -11,11 +11,12 @@ use Rattle.cache_tier.specs.StandingBetween.{Stands}
 use Rattle.cache_tier.specs.TierStates.{Settings as TierSettings}
 use Rattle.cache_tier.specs.Worlds.{Tries, World}
 use Rattle.cache_tier.specs.declared.reply.Reply.{Reply}
-use Rattle.tier_opening.specs.Opening.{MayOpen}
+use Rattle.cache_engine.specs.OfTierOpening.Leaving.{EndsEarly}
+use Rattle.cache_engine.specs.OfTierOpening.Opening.{IsSure, MayOpen, Onset, StartsAt}
 use Rattle.stored_tier.specs.Stored.{pace_of}
-use Rattle.tier_opening.specs.Telling.{FailsAs}
-use Rattle.tier_opening.specs.declared.opening.OpenError.{OpenError}
-use Rattle.tier_opening.specs.declared.opening.OpenError.TheVariants as open_error
+use Rattle.cache_engine.specs.OfTierOpening.Telling.{FailsAs}
+use Rattle.cache_engine.specs.OfTierOpening.declared.opening.OpenError.{OpenError}
+use Rattle.cache_engine.specs.OfTierOpening.declared.opening.OpenError.TheVariants as open_error
 use Rattle.cache_engine.specs.Importing.{Imports}
 use Rattle.cache_engine.specs.Opening.{Opens}
 use Rattle.session_cli.specs.declared.serving.Status.{Status}
@@ -38,15 +39,17 @@ TellsImport status sink sink' (open_error.Differs table key) =
 TellsImport status sink sink' open_error.Memory = TellsWhy status sink sink' open_error.Memory
 
 -- No engine was opened, and nothing of the source is taken. The sink is told why, and that has its cause at the
--- moment of the opening.
-pub record ImportUnopened (status : Status) (settings : TierSettings) (input : List ℕ) (before : Outside)
-    (source : Option (List ℕ)) (behind : Outside) : Type 0 where
+-- moment of the opening. Where a crash left just what the site told as the command began, it is told what a crash
+-- leaves.
+pub record ImportUnopened (status : Status) (settings : TierSettings) (there : Held) (input : List ℕ)
+    (before : Outside) (source : Option (List ℕ)) (behind : Outside) : Type 0 where
   pub untaken : source ≡ Some input
   pub why : OpenError
   pub tells : TellsImport status before.written behind.written why
   pub moment : ℕ
   pub next : IsNext (before.coming 0) moment
   pub failed : FailsAs moment (pace_of settings) before.site behind.site why
+  pub leaves : before.certain there → EndsEarly settings moment there before.site behind.site behind.left behind.leaves
 
 -- all of the bytes are written, or a front of them where the sink failed
 abbrev pub Puts : {E : Type 0} → Result (Unit {0}) E → Option (List ℕ) → Option (List ℕ) → List ℕ → Type 0
@@ -98,13 +101,15 @@ ImportEnds Damaged word input w before source behind = ⊥
 ImportEnds Differs word input w before source behind = ⊥
 
 -- An engine was opened, which may raise counts of faults, and in which transactions of others may come. In the world
--- that this leaves the tier stands, and no ticket is in doubt. There the rows were imported, or nothing was done.
-pub record OpenedAndImported (status : Status) (settings : TierSettings) (there : Held) (word input : List ℕ)
-    (before : Outside) (source : Option (List ℕ)) (behind : Outside) : Type 0 where
+-- that this leaves the tier stands, and no ticket is in doubt. There the rows were imported, or nothing was done. The
+-- way of the journal begins as is asked.
+pub record OpenedAndImported (onset : Onset) (status : Status) (settings : TierSettings) (there : Held)
+    (word input : List ℕ) (before : Outside) (source : Option (List ℕ)) (behind : Outside) : Type 0 where
   pub first : ℕ
   pub next : IsNext (before.coming 0) first
   pub world : World
   pub opens : Opens settings first there world
+  pub starts : StartsAt onset before.site.moment opens.begins
   pub kept : world.journal.kept ≡ true
   pub stands : Stands world
   pub certain : world.tier.doubt ≡ None
@@ -116,10 +121,10 @@ pub record OpenedAndImported (status : Status) (settings : TierSettings) (there 
 -- command did with the bytes of the source and the word of a table.
 abbrev pub ImportRuns : TierSettings → List ℕ → Status → Option (List ℕ) → Outside → Option (List ℕ) → Outside → Type 0
 ImportRuns settings word status source before source' behind =
-    (input : List ℕ) (there : Held) → source ≡ Some input → before.site.held ≡ Some there → HaveBytes there.slots
-    → MayOpen before.site.shared there
-    → ImportUnopened status settings input before source' behind
-    ⊎ OpenedAndImported status settings there word input before source' behind
+    (onset : Onset) (input : List ℕ) (there : Held) → source ≡ Some input → before.site.held ≡ Some there
+    → HaveBytes there.slots → IsSure onset before.certain there → MayOpen before.site.shared there
+    → ImportUnopened status settings there input before source' behind
+    ⊎ OpenedAndImported onset status settings there word input before source' behind
 
 -- the whole of what a source holds is taken into a list
 pub record TakesAll (input bytes : List ℕ) (source : Option (List ℕ)) : Type 0 where

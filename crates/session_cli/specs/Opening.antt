@@ -9,8 +9,8 @@ use Rattle.outside.specs.declared.disk.Slot.TheVariants.{First, Second}
 use Rattle.command_line.specs.declared.settings.Settings.{Settings}
 use Rattle.cache_tier.specs.TierStates.{Settings as TierSettings}
 use Rattle.cache_tier.specs.Worlds.{World}
-use Rattle.tier_opening.specs.declared.opening.OpenError.{OpenError}
-use Rattle.tier_opening.specs.declared.opening.OpenError.TheVariants as open_error
+use Rattle.cache_engine.specs.OfTierOpening.declared.opening.OpenError.{OpenError}
+use Rattle.cache_engine.specs.OfTierOpening.declared.opening.OpenError.TheVariants as open_error
 use Rattle.session_cli.specs.declared.serving.Status.{Status}
 use Rattle.session_cli.specs.declared.serving.Status.TheVariants.{Damaged, Differs, DiskFailed, NoMemory, SchemaFailed}
 use Rattle.session_cli.specs.declared.serving.Status.TheVariants.{SinkFailed}

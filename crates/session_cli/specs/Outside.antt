@@ -1,6 +1,7 @@
 -- What is seen of the outside before or behind a call. (This project's model.)
 
 use Rattle.std.specs.Prelude.{◌≡◌, ℕ, List, Option, Some, true}
+use Rattle.outside.specs.Calls.{Certain}
 use Rattle.outside.specs.Holding.{Held}
 use Rattle.outside.specs.Sites.{SiteState}
 use Rattle.cache_tier.specs.Worlds.{World}
@@ -8,6 +9,7 @@ use Rattle.tier_journal.specs.declared.journal.TierJournal.{TierJournal}
 use Rattle.tier_journal.specs.Keeping.{Keeps}
 use Rattle.stored_tier.specs.Sites.{IsAt}
 use Rattle.tier_journal.specs.KeptOver.{IsLeftOver, KeepsOver}
+use Rattle.cache_engine.specs.OfTierOpening.Leaving.{LeftSince, Quality}
 use Rattle.session_cli.specs.Timing.{Coming}
 
 -- that this journal is kept over a disk in this world
@@ -27,7 +29,8 @@ pub record WasKept {D : Type 0} (state : D → SiteState) (possible : D → ℕ 
   pub is : IsKeptNow (state site) (KeepsOver state possible site) w
 
 -- what the sink holds, where it tells that; what the clock will answer; the site; which journal is kept over its disk
--- in a world; in which worlds one was at some time; and of which world's journal a crash leaves a point of the way
+-- in a world; in which worlds one was at some time; of which world's journal a crash leaves a point of the way; whether
+-- a crash now leaves just what the site tells; and which quality has whatever a crash leaves since a moment
 pub record Outside : Type 1 where
   pub written : Option (List ℕ)
   pub coming : Coming
@@ -35,6 +38,8 @@ pub record Outside : Type 1 where
   pub keeps : Keeping
   pub kept_once : World → Type 0
   pub leaves : World → Type 0
+  pub certain : Held → Type 0
+  pub left : ℕ → Quality → Type 0
 
 abbrev pub seen : {D : Type 0} → Option (List ℕ) → Coming → (D → SiteState) → (D → ℕ → Held → Type 0) → D → Outside
 seen written coming state possible d =
@@ -45,6 +50,8 @@ seen written coming state possible d =
       keeps = KeepsOver state possible d;
       kept_once = WasKept state possible;
       leaves = IsLeftOver state possible d;
+      certain = Certain state possible d;
+      left = LeftSince state possible d;
     }
 
 -- The site tells what it holds, and the world's journal is kept in its slots.

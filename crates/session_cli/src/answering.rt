@@ -21,7 +21,7 @@ use std::alloc::Global;
 use tier_base::Code;
 
 /// Why a run stops before the end of its input.
-#[derive(Clone, Copy, Debug, PartialEq, Eq)]
+#[derive(Clone, Copy, PartialEq, Eq)]
 pub enum Stop {
     /// The sink failed, or took nothing of something.
     Sink,

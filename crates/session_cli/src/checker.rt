@@ -22,7 +22,7 @@ use tier_statements::{done, refuses};
 const LINE_BYTES: usize = 65_536;
 
 /// Why checking ended early.
-#[derive(Clone, Copy, Debug, PartialEq, Eq)]
+#[derive(Clone, Copy, PartialEq, Eq)]
 pub enum CheckFault {
     /// The sink failed, or took nothing of something.
     Sink,

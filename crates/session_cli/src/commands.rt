@@ -11,7 +11,7 @@ use script_maker::{MakeError, write_script};
 use std::alloc::Global;
 
 /// How such a command ended.
-#[derive(Clone, Copy, Debug, PartialEq, Eq)]
+#[derive(Clone, Copy, PartialEq, Eq)]
 pub enum End {
     /// All was written.
     Written,

@@ -3,7 +3,7 @@
 use cache_tier::reply::{Last, Reply};
 
 /// How many lines had a reply, and how many of the replies ended in each kind of line.
-#[derive(Clone, Copy, Debug, PartialEq, Eq)]
+#[derive(Clone, Copy, PartialEq, Eq)]
 pub struct Counts {
     /// The lines with a reply.
     pub requests: u64,

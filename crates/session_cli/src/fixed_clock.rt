@@ -4,7 +4,7 @@ use outside::Clock;
 use tier_base::Moment;
 
 /// A clock that stands at a moment, from which those of a script are counted.
-#[derive(Clone, Copy, Debug, PartialEq, Eq)]
+#[derive(Clone, Copy, PartialEq, Eq)]
 pub struct FixedClock(pub Moment);
 
 impl Clock for FixedClock {

@@ -30,7 +30,7 @@ const INPUT_BYTES: u64 = 4_294_967_296;
 const PIECE_BYTES: usize = 65_536;
 
 /// Why an input isn't taken whole.
-#[derive(Clone, Copy, Debug, PartialEq, Eq)]
+#[derive(Clone, Copy, PartialEq, Eq)]
 enum InputError {
     /// The source failed.
     Source,

@@ -200,7 +200,7 @@ fn run<S: Source, K: Sink, P: Site, C: Clock>(
 }
 
 /// What the program is asked to do.
-#[derive(Clone, Copy, Debug)]
+#[derive(Clone, Copy)]
 struct AskedTask<'a> {
     // the command that the words name
     command: Command<'a>,

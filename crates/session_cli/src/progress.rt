@@ -7,7 +7,7 @@ pub trait Progress {
 }
 
 /// Hears nothing.
-#[derive(Clone, Copy, Debug, Drop)]
+#[derive(Clone, Copy, Drop)]
 pub struct Silent;
 
 impl Progress for Silent {

@@ -27,7 +27,7 @@ const INPUT_BYTES: u64 = 4_294_967_296;
 const PIECE_BYTES: usize = 65_536;
 
 /// How a run ended.
-#[derive(Clone, Copy, Debug, PartialEq, Eq)]
+#[derive(Clone, Copy, PartialEq, Eq)]
 pub enum Status {
     /// The input was read to its end.
     Finished,

@@ -10,7 +10,7 @@ use std::alloc::{AllocError, Global};
 use table_state::Entry;
 
 /// What a script's run comes to.
-#[derive(Clone, Copy, Debug, PartialEq, Eq)]
+#[derive(Clone, Copy, PartialEq, Eq)]
 pub struct Summary {
     /// The counts of its replies.
     pub counts: Counts,

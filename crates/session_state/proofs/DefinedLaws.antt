@@ -3,15 +3,15 @@ use Rattle.std.proofs.Common.{◌≡◌, ℕ, true, Option, Some, None, List, []
 use Rattle.std.specs.Option.{option_and_then, option_map}
 use Rattle.std.proofs.lemmas.Bool.{and_from, lt-ltb}
 use Rattle.std.proofs.lemmas.Option.{slice_get_within}
-use Rattle.tier_base.specs.declared.number.TableId.{TableId}
-use Rattle.table_defs.specs.declared.definition.ForeignKey.{ForeignKey}
-use Rattle.table_defs.specs.declared.definition.TableDef.{TableDef}
-use Rattle.indexed_rows.specs.Rows.{Table}
-use Rattle.table_state.specs.declared.operation.Op.{Op}
-use Rattle.table_state.specs.declared.operation.Op.TheVariants.{Insert, Update, Delete}
-use Rattle.table_state.specs.Operations.{applied, applied_all, on_table, table_of, with_change, with_row, without_row}
-use Rattle.table_state.specs.Sound.{RefersBack}
-use Rattle.table_state.specs.Tables.{TableState}
+use Rattle.own_rows.specs.tier_base.specs.declared.number.TableId.{TableId}
+use Rattle.own_rows.specs.table_defs.specs.declared.definition.ForeignKey.{ForeignKey}
+use Rattle.own_rows.specs.table_defs.specs.declared.definition.TableDef.{TableDef}
+use Rattle.own_rows.specs.indexed_rows.specs.Rows.{Table}
+use Rattle.own_rows.specs.table_state.specs.declared.operation.Op.{Op}
+use Rattle.own_rows.specs.table_state.specs.declared.operation.Op.TheVariants.{Insert, Update, Delete}
+use Rattle.own_rows.specs.table_state.specs.Operations.{applied, applied_all, on_table, table_of, with_change, with_row, without_row}
+use Rattle.own_rows.specs.table_state.specs.Sound.{RefersBack}
+use Rattle.own_rows.specs.table_state.specs.Tables.{TableState}
 use Rattle.session_state.specs.Kept.{are_defined, has_both, has_parent_of}
 
 -- the table is there, and the schema stays

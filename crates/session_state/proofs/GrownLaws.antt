@@ -3,13 +3,13 @@ use Rattle.std.proofs.Common.{◌≡◌, zero, suc, ◌<◌, ◌≤◌, true, Op
 use Rattle.std.specs.List.{flat_map}
 use Rattle.std.proofs.lemmas.Bool.{and_from, and_parts, lt-ltb, ltb-true}
 use Rattle.std.proofs.lemmas.Option.{slice_get_within}
-use Rattle.table_defs.specs.declared.definition.ForeignKey.{ForeignKey}
-use Rattle.table_defs.specs.declared.definition.TableDef.{TableDef}
-use Rattle.table_state.specs.declared.footprint.Footprint.{Footprint}
-use Rattle.table_state.specs.declared.footprint.RowKey.{RowKey}
-use Rattle.table_state.specs.declared.operation.Op.{Op}
-use Rattle.table_state.specs.Footprints.{conflict, footprint_of, referred_by, referred_key, rows_of, written_by, written_key}
-use Rattle.table_state.specs.Operations.{table_of}
+use Rattle.own_rows.specs.table_defs.specs.declared.definition.ForeignKey.{ForeignKey}
+use Rattle.own_rows.specs.table_defs.specs.declared.definition.TableDef.{TableDef}
+use Rattle.own_rows.specs.table_state.specs.declared.footprint.Footprint.{Footprint}
+use Rattle.own_rows.specs.table_state.specs.declared.footprint.RowKey.{RowKey}
+use Rattle.own_rows.specs.table_state.specs.declared.operation.Op.{Op}
+use Rattle.own_rows.specs.table_state.specs.Footprints.{conflict, footprint_of, referred_by, referred_key, rows_of, written_by, written_key}
+use Rattle.own_rows.specs.table_state.specs.Operations.{table_of}
 use Rattle.own_rows.specs.Knowing.{Knows}
 use Rattle.own_rows.proofs.RowsLaws.{rows_grown}
 use Rattle.own_rows.proofs.StepLaws.{found}

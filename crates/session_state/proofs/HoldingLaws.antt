@@ -6,14 +6,14 @@ use Rattle.std.specs.declared.cmp.Ordering.TheVariants.{Less, Equal, Greater}
 use Rattle.std.proofs.lemmas.Bool.{cases_eq, ne_eqb}
 use Rattle.std.proofs.lemmas.Grind.{flat_map-append}
 use Rattle.std.specs.FinMap.{contains_key, empty, get, get-empty, get-insert, insert, len, len-empty, len-insert}
-use Rattle.row_types.specs.declared.value.Value.{Value}
-use Rattle.row_types.specs.Order.{key_order}
-use Rattle.row_types.proofs.OrderLaws.{key_total, key_exact}
-use Rattle.indexed_rows.specs.Rows.{Table, is_same, put_in}
-use Rattle.table_defs.specs.declared.definition.TableDef.{TableDef}
-use Rattle.table_state.specs.declared.operation.Op.{Op}
-use Rattle.table_state.specs.declared.footprint.RowKey.{RowKey}
-use Rattle.table_state.specs.Footprints.{footprint_of, is_among, referred_by, same_row_key, written_by}
+use Rattle.own_rows.specs.row_types.specs.declared.value.Value.{Value}
+use Rattle.own_rows.specs.row_types.specs.Order.{key_order}
+use Rattle.own_rows.specs.row_types.proofs.OrderLaws.{key_total, key_exact}
+use Rattle.own_rows.specs.indexed_rows.specs.Rows.{Table, is_same, put_in}
+use Rattle.own_rows.specs.table_defs.specs.declared.definition.TableDef.{TableDef}
+use Rattle.own_rows.specs.table_state.specs.declared.operation.Op.{Op}
+use Rattle.own_rows.specs.table_state.specs.declared.footprint.RowKey.{RowKey}
+use Rattle.own_rows.specs.table_state.specs.Footprints.{footprint_of, is_among, referred_by, same_row_key, written_by}
 use Rattle.own_rows.proofs.LayingLaws.{set_here, set_length, set_other}
 use Rattle.own_rows.proofs.StepLaws.{found}
 use Rattle.session_state.specs.declared.mark.Mark.{Mark}

@@ -5,18 +5,18 @@ use Rattle.std.proofs.lemmas.Bool.{and_parts, and_from, ltb-true}
 use Rattle.std.proofs.lemmas.List.Elements.{All-cons}
 use Rattle.std.proofs.lemmas.List.Folds.{list_all-append}
 use Rattle.std.proofs.lemmas.Option.{slice_get_within}
-use Rattle.tier_base.specs.declared.limit.Limit.TheVariants as limit
-use Rattle.tier_base.specs.declared.number.TableId.{TableId}
-use Rattle.tier_base.specs.Limits.{greatest}
-use Rattle.row_types.specs.declared.value.Value.{Value}
-use Rattle.indexed_rows.specs.Rows.{Table}
-use Rattle.table_defs.specs.declared.definition.ForeignKey.{ForeignKey}
-use Rattle.table_defs.specs.declared.definition.TableDef.{TableDef}
-use Rattle.table_state.specs.declared.footprint.RowKey.{RowKey}
-use Rattle.table_state.specs.declared.operation.Op.{Op}
-use Rattle.table_state.specs.declared.operation.Op.TheVariants.{Insert, Update, Delete}
-use Rattle.table_state.specs.Footprints.{footprint_of, parent_key, referred_by, referred_key, rows_of, written_by, written_key}
-use Rattle.table_state.specs.Operations.{table_of}
+use Rattle.own_rows.specs.tier_base.specs.declared.limit.Limit.TheVariants as limit
+use Rattle.own_rows.specs.tier_base.specs.declared.number.TableId.{TableId}
+use Rattle.own_rows.specs.tier_base.specs.Limits.{greatest}
+use Rattle.own_rows.specs.row_types.specs.declared.value.Value.{Value}
+use Rattle.own_rows.specs.indexed_rows.specs.Rows.{Table}
+use Rattle.own_rows.specs.table_defs.specs.declared.definition.ForeignKey.{ForeignKey}
+use Rattle.own_rows.specs.table_defs.specs.declared.definition.TableDef.{TableDef}
+use Rattle.own_rows.specs.table_state.specs.declared.footprint.RowKey.{RowKey}
+use Rattle.own_rows.specs.table_state.specs.declared.operation.Op.{Op}
+use Rattle.own_rows.specs.table_state.specs.declared.operation.Op.TheVariants.{Insert, Update, Delete}
+use Rattle.own_rows.specs.table_state.specs.Footprints.{footprint_of, parent_key, referred_by, referred_key, rows_of, written_by, written_key}
+use Rattle.own_rows.specs.table_state.specs.Operations.{table_of}
 use Rattle.own_rows.specs.declared.own.OwnRows.{OwnRows}
 use Rattle.own_rows.specs.Laying.{HaveRoom}
 use Rattle.own_rows.specs.OwnTables.{AreRowsOf}

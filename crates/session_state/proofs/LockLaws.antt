@@ -4,18 +4,18 @@ use Rattle.std.specs.Option.{option_map, option_or}
 use Rattle.std.specs.List.{All, find, flat_map}
 use Rattle.std.proofs.lemmas.List.{at_drop_more}
 use Rattle.std.proofs.lemmas.List.Elements.{All-weaker}
-use Rattle.table_state.specs.declared.footprint.RowKey.{RowKey}
+use Rattle.own_rows.specs.table_state.specs.declared.footprint.RowKey.{RowKey}
 use Rattle.std.specs.FinMap.{contains_key, empty, get-empty}
-use Rattle.row_types.specs.declared.value.Value.{Value}
-use Rattle.row_types.specs.Order.{key_order}
-use Rattle.tier_base.specs.declared.number.TableId.{TableId}
-use Rattle.tier_base.specs.declared.number.SessionId.{SessionId}
-use Rattle.table_defs.specs.declared.definition.TableDef.{TableDef}
-use Rattle.table_state.specs.declared.operation.Op.{Op}
-use Rattle.table_state.specs.declared.operation.Op.TheVariants.{Insert, Update, Delete}
-use Rattle.table_state.specs.Operations.{table_of}
-use Rattle.table_state.specs.Footprints.{referred_key, written_key}
-use Rattle.indexed_rows.specs.Rows.{Table}
+use Rattle.own_rows.specs.row_types.specs.declared.value.Value.{Value}
+use Rattle.own_rows.specs.row_types.specs.Order.{key_order}
+use Rattle.own_rows.specs.tier_base.specs.declared.number.TableId.{TableId}
+use Rattle.own_rows.specs.tier_base.specs.declared.number.SessionId.{SessionId}
+use Rattle.own_rows.specs.table_defs.specs.declared.definition.TableDef.{TableDef}
+use Rattle.own_rows.specs.table_state.specs.declared.operation.Op.{Op}
+use Rattle.own_rows.specs.table_state.specs.declared.operation.Op.TheVariants.{Insert, Update, Delete}
+use Rattle.own_rows.specs.table_state.specs.Operations.{table_of}
+use Rattle.own_rows.specs.table_state.specs.Footprints.{referred_key, written_key}
+use Rattle.own_rows.specs.indexed_rows.specs.Rows.{Table}
 use Rattle.session_state.specs.declared.session.Session.{Session}
 use Rattle.session_state.specs.Holding.{is_held}
 use Rattle.session_state.specs.Kept.{IsKept, seen_of}

@@ -2,11 +2,11 @@
 
 use Rattle.std.specs.Prelude.{◌≡◌, ℕ, ◌+◌, ◌<◌, ◌^◌, Bool, List, [], ◌∷◌, Some, slice_get, slice_set, unwrap_or}
 use Rattle.std.specs.FinMap.{contains_key, empty, len}
-use Rattle.row_types.specs.declared.value.Value.{Value}
-use Rattle.tier_base.specs.declared.number.TableId.{TableId}
-use Rattle.indexed_rows.specs.Rows.{Table, put_in}
-use Rattle.table_state.specs.declared.footprint.RowKey.{RowKey}
-use Rattle.table_state.specs.Footprints.{is_among}
+use Rattle.own_rows.specs.row_types.specs.declared.value.Value.{Value}
+use Rattle.own_rows.specs.tier_base.specs.declared.number.TableId.{TableId}
+use Rattle.own_rows.specs.indexed_rows.specs.Rows.{Table, put_in}
+use Rattle.own_rows.specs.table_state.specs.declared.footprint.RowKey.{RowKey}
+use Rattle.own_rows.specs.table_state.specs.Footprints.{is_among}
 use Rattle.session_state.specs.declared.mark.Mark.{Mark}
 
 -- the keys held of a table

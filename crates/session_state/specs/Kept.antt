@@ -2,13 +2,13 @@
 
 use Rattle.std.specs.Prelude.{◌≡◌, ℕ, ◌+◌, ◌≤◌, ◌*◌, List, Option, Some, None, Bool, true, false, length, nat_lt, slice_get}
 use Rattle.std.specs.List.{list_all}
-use Rattle.tier_base.specs.declared.limit.Limit.TheVariants as limit
-use Rattle.tier_base.specs.Limits.{greatest}
-use Rattle.table_defs.specs.declared.definition.ForeignKey.{ForeignKey}
-use Rattle.table_defs.specs.declared.definition.TableDef.{TableDef}
-use Rattle.table_state.specs.declared.operation.Op.{Op}
-use Rattle.table_state.specs.Footprints.{footprint_of}
-use Rattle.table_state.specs.Operations.{table_of}
+use Rattle.own_rows.specs.tier_base.specs.declared.limit.Limit.TheVariants as limit
+use Rattle.own_rows.specs.tier_base.specs.Limits.{greatest}
+use Rattle.own_rows.specs.table_defs.specs.declared.definition.ForeignKey.{ForeignKey}
+use Rattle.own_rows.specs.table_defs.specs.declared.definition.TableDef.{TableDef}
+use Rattle.own_rows.specs.table_state.specs.declared.operation.Op.{Op}
+use Rattle.own_rows.specs.table_state.specs.Footprints.{footprint_of}
+use Rattle.own_rows.specs.table_state.specs.Operations.{table_of}
 use Rattle.own_rows.specs.Laying.{HaveRoom}
 use Rattle.own_rows.specs.OwnTables.{AreRowsOf}
 use Rattle.session_state.specs.declared.session.Session.{Session}

@@ -3,3 +3,9 @@ pub mod Kept
 pub mod Locks
 pub mod Meeting
 pub mod Sessions
+pub use Rattle.own_rows.specs.tier_base
+pub use Rattle.own_rows.specs.row_types
+pub use Rattle.own_rows.specs.table_defs
+pub use Rattle.own_rows.specs.indexed_rows
+pub use Rattle.own_rows.specs.table_state
+pub use Rattle.own_rows

@@ -2,11 +2,11 @@
 
 use Rattle.std.specs.Prelude.{◌≡◌, List, [], ◌∷◌, Option, Some, None, Bool, true, false, not, ◌&&◌, All, find}
 use Rattle.std.specs.Option.{option_map, option_or}
-use Rattle.tier_base.specs.declared.number.SessionId.{SessionId}
-use Rattle.table_defs.specs.declared.definition.TableDef.{TableDef}
-use Rattle.table_state.specs.declared.operation.Op.{Op}
-use Rattle.table_state.specs.declared.footprint.RowKey.{RowKey}
-use Rattle.table_state.specs.Footprints.{conflict, footprint_of, is_among, is_in, referred_by, written_by}
+use Rattle.own_rows.specs.tier_base.specs.declared.number.SessionId.{SessionId}
+use Rattle.own_rows.specs.table_defs.specs.declared.definition.TableDef.{TableDef}
+use Rattle.own_rows.specs.table_state.specs.declared.operation.Op.{Op}
+use Rattle.own_rows.specs.table_state.specs.declared.footprint.RowKey.{RowKey}
+use Rattle.own_rows.specs.table_state.specs.Footprints.{conflict, footprint_of, is_among, is_in, referred_by, written_by}
 use Rattle.session_state.specs.Sessions.{OpenSession, has_id}
 
 -- the session isn't the one that asks

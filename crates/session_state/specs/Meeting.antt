@@ -2,10 +2,10 @@
 
 use Rattle.std.specs.Prelude.{List, Option, find}
 use Rattle.std.specs.Option.{option_or}
-use Rattle.table_defs.specs.declared.definition.TableDef.{TableDef}
-use Rattle.table_state.specs.declared.footprint.RowKey.{RowKey}
-use Rattle.table_state.specs.declared.operation.Op.{Op}
-use Rattle.table_state.specs.Footprints.{referred_by, written_by}
+use Rattle.own_rows.specs.table_defs.specs.declared.definition.TableDef.{TableDef}
+use Rattle.own_rows.specs.table_state.specs.declared.footprint.RowKey.{RowKey}
+use Rattle.own_rows.specs.table_state.specs.declared.operation.Op.{Op}
+use Rattle.own_rows.specs.table_state.specs.Footprints.{referred_by, written_by}
 use Rattle.session_state.specs.Locks.{first_some, holds, writes}
 use Rattle.session_state.specs.Sessions.{OpenSession}
 

@@ -2,8 +2,8 @@
 -- those of TimesTen's Cache User's Guide, "Setting a passthrough level".)
 
 use Rattle.std.specs.Prelude.{ℕ, List, [], ◌++◌, Option, Some, None, Bool, nat_eq, unwrap_or}
-use Rattle.tier_base.specs.declared.number.SessionId.{SessionId}
-use Rattle.table_state.specs.declared.operation.Op.{Op}
+use Rattle.own_rows.specs.tier_base.specs.declared.number.SessionId.{SessionId}
+use Rattle.own_rows.specs.table_state.specs.declared.operation.Op.{Op}
 
 -- An open session: its number and label; the level of passthrough and whether its commits are flushed, as OPEN said;
 -- the level that its open transaction was given, if it was given one; and its open operations.

@@ -1,17 +1,17 @@
 //! Keys held by table. All memory is taken when their marks are made, and none when they are put in.
 
 ghost use Rattle.std.specs.Prelude.{◌≡◌, ℕ, ◌+◌, ◌++◌, ◌<◌, ◌≤◌, ◌^◌, [], List, OnOk, length, map, option_copied, slice_get};
-ghost use Rattle.indexed_rows.specs.Rows.{key_of};
-ghost use Rattle.table_state.specs.declared.footprint.RowKey.{RowKey as OneKey};
+ghost use Rattle.own_rows.specs.indexed_rows.specs.Rows.{key_of};
+ghost use Rattle.own_rows.specs.table_state.specs.declared.footprint.RowKey.{RowKey as OneKey};
 
 use crate::mark::Mark;
 use crate::putting::{hold_all, widen_keys};
-use indexed_rows::Rows;
 use own_rows::has_same_key;
-use row_types::{Key, Row};
+use own_rows::indexed_rows::Rows;
+use own_rows::row_types::{Key, Row};
+use own_rows::tier_base::TableId;
 use std::alloc::{AllocError, Global};
 use std::marker::Model;
-use tier_base::TableId;
 
 /// Keys held, by the place of their table in the schema. Of tables past the end no key is held. Clauses see a list, a
 /// map without values for each table.
@@ -23,7 +23,7 @@ pub struct HeldKeys {
 impl Model for HeldKeys {
     ghost use Rattle.std.specs.Prelude.{List};
     ghost use Rattle.std.specs.Coded.{coded_list};
-    ghost use Rattle.indexed_rows.specs.Rows.{Table};
+    ghost use Rattle.own_rows.specs.indexed_rows.specs.Rows.{Table};
     ghost use Rattle.own_rows.specs.OwnCode.{table_code};
 
     ghost Value = { List Table };

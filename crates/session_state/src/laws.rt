@@ -2,13 +2,13 @@
 
 ghost use Rattle.std.specs.Prelude.{◌≡◌, ◌++◌, List, Option, Some, filter, true};
 ghost use Rattle.std.specs.Option.{option_map};
-ghost use Rattle.tier_base.specs.declared.number.SessionId.{SessionId};
-ghost use Rattle.table_defs.specs.declared.definition.TableDef.{TableDef};
-ghost use Rattle.table_state.specs.declared.operation.Op.{Op};
-ghost use Rattle.table_state.specs.Footprints.{footprint_of};
-ghost use Rattle.table_state.specs.Operations.{applied_all};
-ghost use Rattle.table_state.specs.Sound.{IsTableState};
-ghost use Rattle.table_state.specs.Tables.{TableState};
+ghost use Rattle.own_rows.specs.tier_base.specs.declared.number.SessionId.{SessionId};
+ghost use Rattle.own_rows.specs.table_defs.specs.declared.definition.TableDef.{TableDef};
+ghost use Rattle.own_rows.specs.table_state.specs.declared.operation.Op.{Op};
+ghost use Rattle.own_rows.specs.table_state.specs.Footprints.{footprint_of};
+ghost use Rattle.own_rows.specs.table_state.specs.Operations.{applied_all};
+ghost use Rattle.own_rows.specs.table_state.specs.Sound.{IsTableState};
+ghost use Rattle.own_rows.specs.table_state.specs.Tables.{TableState};
 ghost use Rattle.own_rows.specs.Knowing.{Knows};
 ghost use Rattle.session_state.specs.declared.session.Session.{Session};
 ghost use Rattle.session_state.specs.Kept.{IsKept, are_defined};

@@ -9,4 +9,6 @@ mod putting;
 mod session;
 
 pub use locks::{holder, keeper_of_key};
+pub use own_rows;
+pub use own_rows::{indexed_rows, row_types, table_defs, table_state, tier_base};
 pub use session::Session;

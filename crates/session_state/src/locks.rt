@@ -2,18 +2,18 @@
 
 ghost use Rattle.std.specs.Prelude.{◌≡◌, ◌&&◌, ◌||◌, List, All, None, find, map, option_copied};
 ghost use Rattle.std.specs.Option.{option_map, option_or};
-ghost use Rattle.table_defs.specs.declared.definition.TableDef.{TableDef as Def};
-ghost use Rattle.indexed_rows.specs.Rows.{key_of};
-ghost use Rattle.table_state.specs.Footprints.{referred_key, written_key};
+ghost use Rattle.own_rows.specs.table_defs.specs.declared.definition.TableDef.{TableDef as Def};
+ghost use Rattle.own_rows.specs.indexed_rows.specs.Rows.{key_of};
+ghost use Rattle.own_rows.specs.table_state.specs.Footprints.{referred_key, written_key};
 ghost use Rattle.session_state.specs.Holding.{is_held};
 ghost use Rattle.session_state.specs.Kept.{IsKept, seen_of};
 ghost use Rattle.session_state.specs.Locks.{AreApart, first_some, holder_by, holder_of, is_other, keeper, met, writer};
 
 use crate::session::Session;
-use row_types::{Key, Row};
-use table_defs::{BackingSchema, TableDef};
-use table_state::Op;
-use tier_base::{SessionId, TableId};
+use own_rows::row_types::{Key, Row};
+use own_rows::table_defs::{BackingSchema, TableDef};
+use own_rows::table_state::Op;
+use own_rows::tier_base::{SessionId, TableId};
 
 fn is_other(but: Option<SessionId>, session: &Session) -> bool
     ensures { result ≡ is_other but (seen_of session.now) }

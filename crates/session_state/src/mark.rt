@@ -3,11 +3,11 @@
 ghost use Rattle.std.specs.Prelude.{◌≡◌, IfOk, map};
 ghost use Rattle.session_state.specs.Holding.{key_of_mark};
 
-use indexed_rows::Spare;
-use row_types::Row;
+use own_rows::indexed_rows::Spare;
+use own_rows::row_types::Row;
+use own_rows::table_state::RowKey;
+use own_rows::tier_base::{Seq, TableId};
 use std::alloc::{AllocError, Global};
-use table_state::RowKey;
-use tier_base::{Seq, TableId};
 
 /// A key of a table, with room for it.
 pub struct Mark {

@@ -1,11 +1,11 @@
 //! Keys put among those held of tables.
 
 ghost use Rattle.std.specs.Prelude.{◌≡◌, ℕ, ◌<◌, ◌≤◌, ◌^◌, List, OnOk, length};
-ghost use Rattle.table_state.specs.declared.footprint.RowKey.{RowKey};
+ghost use Rattle.own_rows.specs.table_state.specs.declared.footprint.RowKey.{RowKey};
 ghost use Rattle.session_state.specs.Holding.{AreKeysOf, AreWithin, KeysHaveRoom, with_mark, with_marks};
 
 use crate::mark::Mark;
-use indexed_rows::Rows;
+use own_rows::indexed_rows::Rows;
 use std::alloc::{AllocError, Global};
 
 /// A place for the keys of each of so many tables. What was pushed stays where memory is wanting.

@@ -1,23 +1,23 @@
 //! One open session.
 
 ghost use Rattle.std.specs.Prelude.{◌≡◌, ◌+◌, ◌++◌, ◌≤◌, List, [], IfOk, None, OnErr, OnOk, Some, length, map, true};
-ghost use Rattle.table_defs.specs.declared.definition.TableDef.{TableDef as Def};
-ghost use Rattle.tier_base.specs.declared.limit.Limit.{Limit as OneLimit};
-ghost use Rattle.tier_base.specs.declared.limit.Limit.TheVariants.{Operations};
-ghost use Rattle.tier_base.specs.Limits.{greatest};
-ghost use Rattle.table_state.specs.Footprints.{footprint_of, is_among};
+ghost use Rattle.own_rows.specs.table_defs.specs.declared.definition.TableDef.{TableDef as Def};
+ghost use Rattle.own_rows.specs.tier_base.specs.declared.limit.Limit.{Limit as OneLimit};
+ghost use Rattle.own_rows.specs.tier_base.specs.declared.limit.Limit.TheVariants.{Operations};
+ghost use Rattle.own_rows.specs.tier_base.specs.Limits.{greatest};
+ghost use Rattle.own_rows.specs.table_state.specs.Footprints.{footprint_of, is_among};
 ghost use Rattle.own_rows.specs.Laying.{AreStepsOf};
 ghost use Rattle.session_state.specs.Holding.{key_of_mark};
 ghost use Rattle.session_state.specs.Kept.{are_defined};
 
 use crate::held::HeldKeys;
 use crate::mark::{Mark, marks};
+use own_rows::row_types::Key;
+use own_rows::table_defs::BackingSchema;
+use own_rows::table_state::{Footprint, Op, Ops, Scan};
+use own_rows::tier_base::{Label, SessionId, TableId};
 use own_rows::{Overlay, OwnTables, Steps, steps_of};
-use row_types::Key;
 use std::alloc::{AllocError, Global};
-use table_defs::BackingSchema;
-use table_state::{Footprint, Op, Ops, Scan};
-use tier_base::{Label, SessionId, TableId};
 
 /// An open session.
 pub struct Session {
@@ -45,7 +45,7 @@ impl Session {
     ghost use Rattle.session_state.specs.Kept.{IsKept, seen_of};
     ghost use Rattle.session_state.specs.Sessions.{at_rest, begun, level_of, with_flag, with_ops};
     ghost use Rattle.own_rows.specs.OwnTables.{AreShown};
-    ghost use Rattle.table_state.specs.Operations.{applied_all};
+    ghost use Rattle.own_rows.specs.table_state.specs.Operations.{applied_all};
 
     /// A session that has written nothing. It takes no memory.
     pub fn start(alloc: Global, id: SessionId, label: Label, level: u8, durable: bool) -> Session

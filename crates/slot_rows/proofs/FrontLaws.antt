@@ -8,9 +8,9 @@ use Rattle.std.specs.List.Sorted.{IsBinarySearchResult, IsSearchInRange}
 use Rattle.std.specs.Ordering.{eq_by_cmp, is_eq, ordering_index, ordering_then}
 use Rattle.std.specs.FinMap as fm
 use Rattle.slab.specs.Slab.{Slab, get}
-use Rattle.row_types.specs.declared.value.Value.{Value}
-use Rattle.row_types.specs.Order.{key_order, order_of}
-use Rattle.row_types.proofs.OrderLaws.{key_exact, key_total, order_total}
+use Rattle.indexed_rows.specs.row_types.specs.declared.value.Value.{Value}
+use Rattle.indexed_rows.specs.row_types.specs.Order.{key_order, order_of}
+use Rattle.indexed_rows.specs.row_types.proofs.OrderLaws.{key_exact, key_total, order_total}
 use Rattle.indexed_rows.proofs.MapLaws.{entries_of}
 use Rattle.indexed_rows.proofs.Sorted.{sorted_tail}
 use Rattle.indexed_rows.specs.Rows.{Table, key_of, put_over}

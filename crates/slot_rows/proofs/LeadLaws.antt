@@ -3,12 +3,12 @@ use Rattle.std.proofs.Common.{◌≡◌, ◌<◌, ◌^◌, ℤ, pos, negsuc, Lis
 use Rattle.std.specs.Ordering.{int_cmp, nat_cmp, ordering_then, ordering_reverse, MatchOrdering}
 use Rattle.std.proofs.lemmas.Cmp.{ranked}
 use Rattle.std.proofs.lemmas.Int.{ints}
-use Rattle.numbers.specs.Decimals.{floor_of}
-use Rattle.numbers.proofs.FloorLaws.{floor_less}
-use Rattle.row_types.proofs.OrderLaws.{key_total}
-use Rattle.row_types.specs.declared.value.Value.{Value}
-use Rattle.row_types.specs.declared.value.Value.TheVariants.{Null, Number, Text, Time}
-use Rattle.row_types.specs.Order.{key_order, order_of}
+use Rattle.indexed_rows.specs.numbers.specs.Decimals.{floor_of}
+use Rattle.indexed_rows.specs.numbers.proofs.FloorLaws.{floor_less}
+use Rattle.indexed_rows.specs.row_types.proofs.OrderLaws.{key_total}
+use Rattle.indexed_rows.specs.row_types.specs.declared.value.Value.{Value}
+use Rattle.indexed_rows.specs.row_types.specs.declared.value.Value.TheVariants.{Null, Number, Text, Time}
+use Rattle.indexed_rows.specs.row_types.specs.Order.{key_order, order_of}
 use Rattle.slot_rows.specs.Leads.{lead, lead_first, lead_of, near}
 
 near_below : (x : ℤ) → near x < 2 ^ 62

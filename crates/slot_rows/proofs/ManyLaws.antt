@@ -4,10 +4,10 @@ use Rattle.std.specs.List.{insert, remove}
 use Rattle.std.specs.FinMap as fm
 use Rattle.std.proofs.lemmas.Cmp.{tied_itself}
 use Rattle.slab.specs.Slab.{Slab, Updates, get}
-use Rattle.row_types.specs.declared.value.Value.{Value}
-use Rattle.row_types.specs.declared.value.Value.TheVariants.{Null}
-use Rattle.row_types.specs.Order.{key_order}
-use Rattle.row_types.proofs.OrderLaws.{key_total}
+use Rattle.indexed_rows.specs.row_types.specs.declared.value.Value.{Value}
+use Rattle.indexed_rows.specs.row_types.specs.declared.value.Value.TheVariants.{Null}
+use Rattle.indexed_rows.specs.row_types.specs.Order.{key_order}
+use Rattle.indexed_rows.specs.row_types.proofs.OrderLaws.{key_total}
 use Rattle.indexed_rows.specs.Places.{IsGapFor, IsKeyAt}
 use Rattle.indexed_rows.proofs.MapLaws.{entries_of, has_key, no_key}
 use Rattle.indexed_rows.proofs.Sorted.{sorted_tail}

@@ -5,9 +5,9 @@ use Rattle.std.proofs.lemmas.List.{length-map}
 use Rattle.std.specs.Option.{option_map}
 use Rattle.std.specs.FinMap as fm
 use Rattle.slab.specs.Slab.{Slab}
-use Rattle.row_types.specs.declared.value.Value.{Value}
-use Rattle.row_types.specs.Order.{key_order}
-use Rattle.row_types.proofs.OrderLaws.{key_total}
+use Rattle.indexed_rows.specs.row_types.specs.declared.value.Value.{Value}
+use Rattle.indexed_rows.specs.row_types.specs.Order.{key_order}
+use Rattle.indexed_rows.specs.row_types.proofs.OrderLaws.{key_total}
 use Rattle.indexed_rows.specs.Places.{IsGapFor, IsKeyAt, IsSplitAt}
 use Rattle.indexed_rows.proofs.MapLaws.{entries_of, has_key, keys_at_least, keys_below}
 use Rattle.indexed_rows.proofs.Sorted.{split_at_key}

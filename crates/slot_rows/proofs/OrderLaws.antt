@@ -6,9 +6,9 @@ use Rattle.std.specs.List.{insert, remove}
 use Rattle.std.specs.List.Sorted.{IsBinarySearchResult, IsSearchInRange}
 use Rattle.std.specs.FinMap as fm
 use Rattle.slab.specs.Slab.{Slab, Updates, get}
-use Rattle.row_types.specs.declared.value.Value.{Value}
-use Rattle.row_types.specs.declared.value.Value.TheVariants.{Null}
-use Rattle.row_types.specs.Order.{key_order}
+use Rattle.indexed_rows.specs.row_types.specs.declared.value.Value.{Value}
+use Rattle.indexed_rows.specs.row_types.specs.declared.value.Value.TheVariants.{Null}
+use Rattle.indexed_rows.specs.row_types.specs.Order.{key_order}
 use Rattle.indexed_rows.specs.Places.{IsGapFor, IsKeyAt, IsSplitAt}
 use Rattle.indexed_rows.proofs.MapLaws.{found_gap, found_key, found_split, goes_in, length_of, now_has, now_sorted, removed, slice_get_map}
 use Rattle.slot_rows.specs.Leads.{lead, lead_first, lead_of}

@@ -5,9 +5,9 @@ use Rattle.std.specs.Ordering.{eq_by_cmp, is_eq, nat_cmp}
 use Rattle.std.proofs.lemmas.Cmp.{nat_cmp_total, tied_itself}
 use Rattle.std.specs.FinMap as fm
 use Rattle.slab.specs.Slab.{Slab, Updates, get}
-use Rattle.row_types.specs.declared.value.Value.{Value}
-use Rattle.row_types.specs.Order.{key_order}
-use Rattle.row_types.proofs.OrderLaws.{key_exact}
+use Rattle.indexed_rows.specs.row_types.specs.declared.value.Value.{Value}
+use Rattle.indexed_rows.specs.row_types.specs.Order.{key_order}
+use Rattle.indexed_rows.specs.row_types.proofs.OrderLaws.{key_exact}
 use Rattle.indexed_rows.specs.Places.{IsGapFor, IsKeyAt}
 use Rattle.indexed_rows.proofs.EntryLaws.{same_values}
 use Rattle.indexed_rows.proofs.MapLaws.{entries_of, has_key, no_key}

@@ -4,14 +4,14 @@ use Rattle.std.proofs.lemmas.List.{get_or-map, length-map}
 use Rattle.std.proofs.lemmas.Option.{slice_get-get_or}
 use Rattle.std.specs.List.{insert, remove}
 use Rattle.std.proofs.lemmas.Cmp.{tied_itself}
-use Rattle.row_types.proofs.OrderLaws.{key_total}
+use Rattle.indexed_rows.specs.row_types.proofs.OrderLaws.{key_total}
 use Rattle.indexed_rows.proofs.Sorted.{below_at, below_tail, sorted_remove, sorted_tail}
 use Rattle.std.specs.List.Sorted.{IsBinarySearchResult, IsSearchInRange}
 use Rattle.std.specs.Ordering.{ordering_index}
 use Rattle.std.specs.FinMap as fm
 use Rattle.slab.specs.Slab.{Slab, Updates, get}
-use Rattle.row_types.specs.declared.value.Value.{Value}
-use Rattle.row_types.specs.Order.{key_order}
+use Rattle.indexed_rows.specs.row_types.specs.declared.value.Value.{Value}
+use Rattle.indexed_rows.specs.row_types.specs.Order.{key_order}
 use Rattle.indexed_rows.specs.Places.{IsKeyAt}
 use Rattle.indexed_rows.specs.Rows.{Table, key_of}
 use Rattle.slot_rows.specs.Slots.{AreSlots, entries_in, entry_in, row_in}

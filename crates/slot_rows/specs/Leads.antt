@@ -3,9 +3,9 @@
 use Rattle.std.specs.Prelude.{ℕ, ℤ, pos, ◌+◌, ◌-◌, ◌^◌, min, List, [], ◌∷◌, int_lt, unsigned_abs, if◌then◌else◌}
 use Rattle.std.specs.Ordering.{nat_cmp, ordering_then}
 use Rattle.std.specs.declared.cmp.Ordering.{Ordering}
-use Rattle.numbers.specs.Decimals.{floor_of}
-use Rattle.row_types.specs.declared.value.Value.{Value}
-use Rattle.row_types.specs.declared.value.Value.TheVariants.{Null, Number, Text, Time}
+use Rattle.indexed_rows.specs.numbers.specs.Decimals.{floor_of}
+use Rattle.indexed_rows.specs.row_types.specs.declared.value.Value.{Value}
+use Rattle.indexed_rows.specs.row_types.specs.declared.value.Value.TheVariants.{Null, Number, Text, Time}
 
 -- a whole number counted from far below 0; those that are further off have the bound on their side
 abbrev pub near : ℤ → ℕ

@@ -3,9 +3,9 @@ use Rattle.std.specs.Prelude.{◌≡◌, ◌≢◌, ℕ, ◌+◌, ◌<◌, ◌�
 use Rattle.std.specs.declared.cmp.Ordering.TheVariants.{Less}
 use Rattle.std.specs.FinMap as fm
 use Rattle.slab.specs.Slab.{Slab, get}
-use Rattle.row_types.specs.declared.value.Value.{Value}
+use Rattle.indexed_rows.specs.row_types.specs.declared.value.Value.{Value}
 use Rattle.indexed_rows.specs.Places.{IsKeyAt}
-use Rattle.row_types.specs.Order.{key_order}
+use Rattle.indexed_rows.specs.row_types.specs.Order.{key_order}
 use Rattle.indexed_rows.specs.Rows.{Table, first_from, has_key, key_of}
 use Rattle.slot_rows.specs.Slots.{AreOrdered, row_in, slots_of, table_in}
 use Rattle.slot_rows.specs.declared.order.Entry.{Entry}

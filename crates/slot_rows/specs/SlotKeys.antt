@@ -4,8 +4,8 @@ use Rattle.std.specs.Coded.{Coded, code_by, coded×, coded_list, coded_ℕ}
 use Rattle.std.specs.Ordering.{nat_cmp}
 use Rattle.std.specs.FinMap as fm
 use Rattle.slab.specs.Slab.{Slab}
-use Rattle.row_types.specs.declared.value.Value.{Value}
-use Rattle.row_types.specs.contracts.value.Value as one
+use Rattle.indexed_rows.specs.row_types.specs.declared.value.Value.{Value}
+use Rattle.indexed_rows.specs.row_types.specs.contracts.value.Value as one
 use Rattle.indexed_rows.specs.Places.{IsKeyAt}
 use Rattle.indexed_rows.specs.Rows.{Table, key_of}
 use Rattle.slot_rows.specs.Slots.{row_in, slots_of}

@@ -4,8 +4,8 @@ use Rattle.std.specs.Option.{option_and_then}
 use Rattle.std.specs.declared.cmp.Ordering.{Ordering}
 use Rattle.std.specs.FinMap as fm
 use Rattle.slab.specs.Slab.{Slab, get}
-use Rattle.row_types.specs.declared.value.Value.{Value}
-use Rattle.row_types.specs.Order.{key_order}
+use Rattle.indexed_rows.specs.row_types.specs.declared.value.Value.{Value}
+use Rattle.indexed_rows.specs.row_types.specs.Order.{key_order}
 use Rattle.indexed_rows.specs.Rows.{Table, is_same, key_of}
 use Rattle.slot_rows.specs.Leads.{lead_first, lead_of}
 use Rattle.slot_rows.specs.declared.order.Entry.{Entry}

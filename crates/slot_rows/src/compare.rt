@@ -1,14 +1,14 @@
 //! Rows compared by their keys, where they lie.
 
 ghost use Rattle.std.specs.Prelude.{◌≡◌, ◌++◌, slice_get, unwrap_or};
-ghost use Rattle.row_types.specs.declared.value.Value.TheVariants.{Null};
-ghost use Rattle.row_types.specs.Order.{key_order};
+ghost use Rattle.indexed_rows.specs.row_types.specs.declared.value.Value.TheVariants.{Null};
+ghost use Rattle.indexed_rows.specs.row_types.specs.Order.{key_order};
 ghost use Rattle.indexed_rows.specs.Rows.{is_same, key_of};
 ghost use Rattle.slot_rows.specs.Slots.{entry_order, row_in};
 
 use crate::order::Entry;
-use long_list::Probe;
-use row_types::{Row, Value, order};
+use indexed_rows::long_list::Probe;
+use indexed_rows::row_types::{Row, Value, order};
 use slab::Slab;
 use std::cmp::Ordering;
 

@@ -5,12 +5,12 @@
 //! always right, as rows decide where leads are equal.
 
 ghost use Rattle.std.specs.Prelude.{◌≡◌, ◌<◌, ◌^◌, slice_get, unwrap_or};
-ghost use Rattle.row_types.specs.declared.value.Value.TheVariants.{Null};
+ghost use Rattle.indexed_rows.specs.row_types.specs.declared.value.Value.TheVariants.{Null};
 ghost use Rattle.slot_rows.specs.Leads.{lead, lead_of, near};
 ghost use Rattle.indexed_rows.specs.Rows.{key_of};
 
 use crate::compare::value_at;
-use row_types::Value;
+use indexed_rows::row_types::Value;
 
 // How far from 0 numbers have leads of their own.
 const BOUND: u64 = 0x2000_0000_0000_0000;

@@ -7,4 +7,6 @@ mod order;
 mod orders;
 mod rows;
 
+pub use indexed_rows;
+pub use indexed_rows::{row_types, tier_base};
 pub use rows::SlotRows;

@@ -10,11 +10,11 @@ ghost use Rattle.slot_rows.specs.Slots.{AreOrdered, slot_at_front, slots_of, tab
 
 use crate::compare::{ByBoth, ByKey, ByOther, ByParts, ByRow, is_key_of, is_key_of_row, values_in};
 use crate::lead::{lead_of_key, lead_of_row};
-use long_list::{LongList, Spare};
-use row_types::{Row, Value};
+use indexed_rows::long_list::{LongList, Spare};
+use indexed_rows::row_types::{Row, Value};
+use indexed_rows::tier_base::Seq;
 use slab::Slab;
 use std::alloc::{AllocError, Global};
-use tier_base::Seq;
 
 // A slot, and the lead of its row's key.
 #[derive(Clone, Copy)]

@@ -4,7 +4,7 @@ ghost use Rattle.std.specs.Prelude.{OnOk};
 ghost use Rattle.slot_rows.specs.Orders.{Awaits, Each, EachNow, EmptiesOrder, EntersOrder, HasSpare, Includes, SameOrder, LeavesOrder};
 
 use crate::order::Order;
-use row_types::Row;
+use indexed_rows::row_types::Row;
 use slab::Slab;
 use std::alloc::{AllocError, Global};
 

@@ -4,7 +4,7 @@ ghost use Rattle.std.specs.Prelude.{◌≡◌, ◌≤◌, ◌<◌, ◌+◌, ◌^
 ghost use Rattle.std.specs.FinMap as map;
 ghost use Rattle.indexed_rows.specs.Places.{IsKeyAt};
 ghost use Rattle.indexed_rows.specs.Rows.{key_of, put_in, put_over};
-ghost use Rattle.row_types.specs.declared.value.Value.{Value as OneValue};
+ghost use Rattle.indexed_rows.specs.row_types.specs.declared.value.Value.{Value as OneValue};
 ghost use Rattle.slot_rows.specs.Orders.{HasBefore, IsRowWith, IsWider, TakesRow, first_columns, place_from};
 ghost use Rattle.slot_rows.specs.SlotKeys.{HasSlotKeys, IsKeyedBy, IsPlaceOf, IsSlotOf, LeavesSlot, PutsInSlot};
 
@@ -12,11 +12,11 @@ use crate::compare::values_in;
 use crate::lead::lead_of_row;
 use crate::order::Order;
 use crate::orders::{clear_all, enter_all, leave_all, reserve_all};
-use row_types::{Row, Value};
+use indexed_rows::row_types::{Row, Value};
+use indexed_rows::tier_base::Seq;
 use slab::Slab;
 use std::alloc::{AllocError, Global};
 use std::marker::Model;
-use tier_base::Seq;
 
 // One more than the most rows that a table holds.
 const LIMIT: usize = 0x8000_0000_0000_0000;

@@ -11,3 +11,4 @@ pub mod Loading
 pub mod Statements
 pub mod Sql
 pub mod Verdict
+pub use Rattle.sql_tokens

@@ -1,5 +1,5 @@
 //! The engine: reads tokens by a grammar that its next token decides.
-ghost use Rattle.std.specs.Prelude.{◌≡◌, true, ◌≢◌, ℕ, List, slice_get, map, IfOk, OnOk, IfNone, IfSome, IsTrue};
+ghost use Rattle.std.specs.Prelude.{◌≡◌, true, ◌≢◌, ◌++◌, ℕ, List, option_to_list, slice_get, map, IfOk, OnOk, IfNone, IfSome, IsTrue};
 ghost use Rattle.sql_tokens.specs.Kinds.{code};
 
 use crate::rule::Rule;
@@ -13,6 +13,9 @@ use std::alloc::{AllocError, Global};
 
 /// The greatest number of levels that conditions may nest.
 const LEVELS: u8 = 32;
+
+/// For how many parts that are still to be read there is room at first: more than most lines want.
+const ROOM: usize = 32;
 
 /// What the tokens are.
 #[derive(Clone, Copy)]
@@ -63,12 +66,25 @@ fn put(stack: &mut Vec<Entry>, level: u8, part: &'static Syntax<'static>) -> Res
     Ok(())
 }
 
-fn next_part(stack: &mut Vec<Entry>) -> Option<Entry>
-    ensures none { IfNone result ((parts_of stack.old.items ≡ Over) × (parts_of stack.new.items ≡ Over)) }
-    ensures some { IfSome result (λ e. parts_of stack.old.items
+// The uppermost part: the one held beside the stack, or else the stack's last.
+fn next_part(stack: &mut Vec<Entry>, top: Option<Entry>) -> Option<Entry>
+    ensures none { IfNone result ((parts_of (stack.old.items ++ option_to_list top) ≡ Over)
+        × (parts_of stack.new.items ≡ Over)) }
+    ensures some { IfSome result (λ e. parts_of (stack.old.items ++ option_to_list top)
         ≡ Part e.level (view e.part.now) (parts_of stack.new.items)) }
 {
-    stack.pop()
+    match top {
+        Some(entry) => Some(entry),
+        None => stack.pop(),
+    }
+}
+
+// A part as the one that is held beside the stack.
+fn held(stack: &[Entry], level: u8, part: &'static Syntax<'static>) -> Option<Entry>
+    ensures { parts_of (stack.now ++ option_to_list result) ≡ Part level (view part.now) (parts_of stack.now) }
+{
+    let _stack = stack;
+    Some(Entry { level, part })
 }
 
 fn would_pass(test: Test, next: Option<Kind>) -> bool
@@ -89,73 +105,76 @@ fn ended(next: Option<Kind>) -> Move
     }
 }
 
-fn step(stack: &mut Vec<Entry>, next: Option<Kind>) -> Result<Move, AllocError>
-    ensures { IfOk result (λ m. step_of rule next (parts_of stack.old.items) ≡ (m, parts_of stack.new.items)) }
+// A step on the parts of the stack and of the part that is held beside it, and what is then held.
+fn step(
+    stack: &mut Vec<Entry>,
+    top: Option<Entry>,
+    next: Option<Kind>,
+) -> Result<(Move, Option<Entry>), AllocError>
+    ensures { IfOk result (λ r. step_of rule next (parts_of (stack.old.items ++ option_to_list top))
+        ≡ (r.0, parts_of (stack.new.items ++ option_to_list r.1))) }
 {
-    let Some(top) = next_part(stack) else {
-        return Ok(ended(next));
+    let Some(top) = next_part(stack, top) else {
+        return Ok((ended(next), None));
     };
     let level = top.level;
     match top.part {
-        Syntax::Empty => Ok(Move::On),
+        Syntax::Empty => Ok((Move::On, None)),
         Syntax::Token(t) => {
             if would_pass(*t, next) {
-                return Ok(Move::Took);
+                return Ok((Move::Took, None));
             }
-            Ok(Move::Wrong)
+            Ok((Move::Wrong, None))
         }
         Syntax::Then(a, b) => {
             put(stack, level, b)?;
-            put(stack, level, a)?;
-            Ok(Move::On)
+            Ok((Move::On, held(stack, level, a)))
         }
         Syntax::Either(t, a, b) => {
             if would_pass(*t, next) {
-                put(stack, level, a)?;
-                return Ok(Move::Took);
+                return Ok((Move::Took, held(stack, level, a)));
             }
-            put(stack, level, b)?;
-            Ok(Move::On)
+            Ok((Move::On, held(stack, level, b)))
         }
         Syntax::Many(t, a) => {
             if would_pass(*t, next) {
                 put(stack, level, top.part)?;
-                put(stack, level, a)?;
-                return Ok(Move::Took);
+                return Ok((Move::Took, held(stack, level, a)));
             }
-            Ok(Move::On)
+            Ok((Move::On, None))
         }
         Syntax::Deeper(t, a, c, b) => {
             if would_pass(*t, next) {
                 if level < LEVELS {
                     put(stack, level, c)?;
-                    put(stack, level + 1, a)?;
-                    return Ok(Move::Took);
+                    return Ok((Move::Took, held(stack, level + 1, a)));
                 }
-                return Ok(Move::Deep);
+                return Ok((Move::Deep, None));
             }
-            put(stack, level, b)?;
-            Ok(Move::On)
+            Ok((Move::On, held(stack, level, b)))
         }
-        Syntax::Named(m) => {
-            put(stack, level, body(*m))?;
-            Ok(Move::On)
-        }
+        Syntax::Named(m) => Ok((Move::On, held(stack, level, body(*m)))),
     }
 }
 
-fn settle(stack: &mut Vec<Entry>, next: Option<Kind>) -> Result<Move, AllocError>
-    ensures settles { IfOk result (λ m. Settles rule next (parts_of stack.old.items) (m, parts_of stack.new.items)) }
-    ensures over { IfOk result (λ m. m ≢ Move.On) }
+fn settle(
+    stack: &mut Vec<Entry>,
+    top: Option<Entry>,
+    next: Option<Kind>,
+) -> Result<(Move, Option<Entry>), AllocError>
+    ensures settles { IfOk result (λ r. Settles rule next (parts_of (stack.old.items ++ option_to_list top))
+        (r.0, parts_of (stack.new.items ++ option_to_list r.1))) }
+    ensures over { IfOk result (λ r. r.0 ≢ Move.On) }
 {
+    let mut held = top;
     loop {
-        let done = step(stack, next)?;
+        let (done, left) = step(stack, held, next)?;
         match done {
-            Move::On => {}
-            Move::Took => return Ok(Move::Took),
-            Move::Wrong => return Ok(Move::Wrong),
-            Move::Deep => return Ok(Move::Deep),
-            Move::Ended => return Ok(Move::Ended),
+            Move::On => held = left,
+            Move::Took => return Ok((Move::Took, left)),
+            Move::Wrong => return Ok((Move::Wrong, left)),
+            Move::Deep => return Ok((Move::Deep, left)),
+            Move::Ended => return Ok((Move::Ended, left)),
         }
     }
 }
@@ -179,13 +198,20 @@ pub fn recognize_by(
     requires { is_decided known (view grammar.now) ≡ true }
     ensures { IfOk result (λ v. Judged (view grammar.now) (kinds_of tokens.now) v) }
 {
-    let mut stack = Vec::new(alloc);
-    put(&mut stack, 0, grammar)?;
+    let mut stack = Vec::with_capacity(alloc, ROOM)?;
+    let mut top = Some(Entry {
+        level: 0,
+        part: grammar,
+    });
     let mut i = 0;
     loop {
         let next = token_at(tokens, i);
-        match settle(&mut stack, next)? {
-            Move::Took => i += 1,
+        let (done, left) = settle(&mut stack, top, next)?;
+        match done {
+            Move::Took => {
+                top = left;
+                i += 1;
+            }
             Move::Deep => return Ok(Verdict::Deep),
             Move::Ended => return Ok(Verdict::Fits),
             Move::Wrong => return Ok(Verdict::At(i)),

@@ -13,3 +13,5 @@ pub mod syntax;
 mod tables;
 pub mod test;
 mod writes;
+
+pub use sql_tokens;

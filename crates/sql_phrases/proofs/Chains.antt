@@ -1,8 +1,8 @@
 -- Lists that are read part by part.
 use Rattle.std.proofs.Common.{◌≡◌, ℕ, zero, suc, ◌<◌, ◌≤◌, Bool, true, false, cond, List, [], ◌∷◌, length, drop, refl, sym, ◌∙◌, arith, length-drop}
 use Rattle.std.proofs.lemmas.List.{nil_from_length}
-use Rattle.sql_tokens.specs.declared.kind.Kind.{Kind}
-use Rattle.sql_tokens.specs.Lexing.{Lexeme}
+use Rattle.sql_grammar.specs.sql_tokens.specs.declared.kind.Kind.{Kind}
+use Rattle.sql_grammar.specs.sql_tokens.specs.Lexing.{Lexeme}
 use Rattle.sql_phrases.specs.Reading.{chained, first_kind, as_list, with_last}
 
 -- What is read so far, and what is still to be read, make the whole.

@@ -1,7 +1,7 @@
 -- What a predicate is, by its first token.
 use Rattle.std.proofs.Common.{◌≡◌, ℕ, zero, suc, ◌-◌, true, false, List, drop, refl, sym, ap, ◌∙◌, arith}
-use Rattle.sql_tokens.specs.declared.kind.Kind.TheVariants as k
-use Rattle.sql_tokens.specs.Lexing.{Lexeme}
+use Rattle.sql_grammar.specs.sql_tokens.specs.declared.kind.Kind.TheVariants as k
+use Rattle.sql_grammar.specs.sql_tokens.specs.Lexing.{Lexeme}
 use Rattle.sql_query.specs.Trees.{ConditionTree}
 use Rattle.sql_phrases.specs.Reading.{begins, past_one}
 use Rattle.sql_phrases.specs.Conditions.{condition_by, negated, predicate_of, test_of}

@@ -1,11 +1,11 @@
 -- What is read is no longer there: no reader gives more tokens than it had.
 use Rattle.std.proofs.Common.{ℕ, zero, suc, ◌≤◌, Bool, true, false, cond, List, length, drop, Option, None, refl, arith, length-drop}
-use Rattle.sql_tokens.specs.declared.kind.Kind.{Kind}
-use Rattle.sql_tokens.specs.declared.kind.Kind.TheVariants as k
-use Rattle.sql_tokens.specs.Lexing.{Lexeme}
+use Rattle.sql_grammar.specs.sql_tokens.specs.declared.kind.Kind.{Kind}
+use Rattle.sql_grammar.specs.sql_tokens.specs.declared.kind.Kind.TheVariants as k
+use Rattle.sql_grammar.specs.sql_tokens.specs.Lexing.{Lexeme}
 use Rattle.sql_grammar.specs.declared.test.Test.TheVariants.{Name, Fold, Compare}
 use Rattle.sql_grammar.specs.Tests.{passes}
-use Rattle.row_types.specs.declared.declaration.TypeDeclaration.{TypeDeclaration}
+use Rattle.sql_query.specs.row_types.specs.declared.declaration.TypeDeclaration.{TypeDeclaration}
 use Rattle.sql_query.specs.Trees.{ExpressionTree, ConditionTree}
 use Rattle.sql_phrases.specs.Reading.{begins, first_kind, at_comma, with_last, as_list, identifier_of, name_of, past_column, column_of, numeral_of, as_number, literal_of, identifiers_of, literals_of, columns_of, past_one}
 use Rattle.sql_phrases.specs.Expressions.{as_constant, as_column, factor_of, at_star, multiplied, term_of, at_sign, added, expression_of, expressions_of}

@@ -1,12 +1,12 @@
 -- What the tokens at the front say: conditions. (TimesTen SQL Reference, "Search conditions": NOT binds before AND, and
 -- AND before OR; AND and OR are taken from left to right.)
 use Rattle.std.specs.Prelude.{ℕ, zero, suc, Bool, true, false, List, length, drop, Option, Some, None, if◌then◌else◌}
-use Rattle.expressions.specs.declared.condition.Comparator.{Comparator}
-use Rattle.expressions.specs.declared.condition.Comparator.TheVariants as comparators
-use Rattle.sql_tokens.specs.declared.kind.Kind.{Kind}
-use Rattle.sql_tokens.specs.declared.kind.Kind.TheVariants as k
-use Rattle.sql_tokens.specs.Kinds.{is_kind}
-use Rattle.sql_tokens.specs.Lexing.{Lexeme}
+use Rattle.sql_query.specs.expressions.specs.declared.condition.Comparator.{Comparator}
+use Rattle.sql_query.specs.expressions.specs.declared.condition.Comparator.TheVariants as comparators
+use Rattle.sql_grammar.specs.sql_tokens.specs.declared.kind.Kind.{Kind}
+use Rattle.sql_grammar.specs.sql_tokens.specs.declared.kind.Kind.TheVariants as k
+use Rattle.sql_grammar.specs.sql_tokens.specs.Kinds.{is_kind}
+use Rattle.sql_grammar.specs.sql_tokens.specs.Lexing.{Lexeme}
 use Rattle.sql_grammar.specs.declared.test.Test.TheVariants.{Compare}
 use Rattle.sql_grammar.specs.Tests.{passes}
 use Rattle.sql_query.specs.Trees.{ExpressionTree, ConditionTree, Compared, Missing, Between, Among, Not, All, Any}

@@ -1,12 +1,12 @@
 -- What the tokens at the front say: expressions. (TimesTen SQL Reference, "Expressions"; `*` binds before `+` and `-`,
 -- and each of them from left to right.)
 use Rattle.std.specs.Prelude.{ℕ, Bool, ◌||◌, List, length, if◌then◌else◌}
-use Rattle.expressions.specs.declared.expression.Arithmetic.{Arithmetic}
-use Rattle.expressions.specs.declared.expression.Arithmetic.TheVariants as arithmetic
-use Rattle.sql_tokens.specs.declared.kind.Kind.{Kind}
-use Rattle.sql_tokens.specs.declared.kind.Kind.TheVariants.{Minus, Plus, Star}
-use Rattle.sql_tokens.specs.Kinds.{is_kind}
-use Rattle.sql_tokens.specs.Lexing.{Lexeme}
+use Rattle.sql_query.specs.expressions.specs.declared.expression.Arithmetic.{Arithmetic}
+use Rattle.sql_query.specs.expressions.specs.declared.expression.Arithmetic.TheVariants as arithmetic
+use Rattle.sql_grammar.specs.sql_tokens.specs.declared.kind.Kind.{Kind}
+use Rattle.sql_grammar.specs.sql_tokens.specs.declared.kind.Kind.TheVariants.{Minus, Plus, Star}
+use Rattle.sql_grammar.specs.sql_tokens.specs.Kinds.{is_kind}
+use Rattle.sql_grammar.specs.sql_tokens.specs.Lexing.{Lexeme}
 use Rattle.sql_grammar.specs.declared.test.Test.TheVariants.{Name}
 use Rattle.sql_grammar.specs.Tests.{passes}
 use Rattle.sql_query.specs.declared.literal.Literal.{Literal}

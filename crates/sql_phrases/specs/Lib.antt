@@ -4,3 +4,9 @@ pub mod Conditions
 pub mod Queries
 pub mod Writes
 pub mod Tables
+pub use Rattle.sql_query.specs.tier_base
+pub use Rattle.sql_grammar.specs.sql_tokens
+pub use Rattle.sql_query.specs.row_types
+pub use Rattle.sql_grammar
+pub use Rattle.sql_query.specs.expressions
+pub use Rattle.sql_query

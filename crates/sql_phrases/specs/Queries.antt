@@ -1,10 +1,10 @@
 -- What the tokens at the front say: queries. (TimesTen SQL Reference, "SELECT".)
 use Rattle.std.specs.Prelude.{ℕ, Bool, true, false, List, [], ◌∷◌, length, drop, Option, Some, None, if◌then◌else◌}
 use Rattle.std.specs.List.{list_all, filter_map}
-use Rattle.sql_tokens.specs.declared.kind.Kind.{Kind}
-use Rattle.sql_tokens.specs.declared.kind.Kind.TheVariants as k
-use Rattle.sql_tokens.specs.Kinds.{is_kind}
-use Rattle.sql_tokens.specs.Lexing.{Lexeme}
+use Rattle.sql_grammar.specs.sql_tokens.specs.declared.kind.Kind.{Kind}
+use Rattle.sql_grammar.specs.sql_tokens.specs.declared.kind.Kind.TheVariants as k
+use Rattle.sql_grammar.specs.sql_tokens.specs.Kinds.{is_kind}
+use Rattle.sql_grammar.specs.sql_tokens.specs.Lexing.{Lexeme}
 use Rattle.sql_grammar.specs.declared.test.Test.TheVariants.{Name, Fold}
 use Rattle.sql_grammar.specs.Tests.{passes}
 use Rattle.sql_query.specs.declared.query.Aggregate.{Aggregate}

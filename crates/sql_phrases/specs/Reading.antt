@@ -2,11 +2,11 @@
 -- parameters" and "Constants".) On tokens that no statement has these functions give some value, which no line says
 -- (this project's rule).
 use Rattle.std.specs.Prelude.{ℕ, zero, suc, ◌+◌, ◌-◌, ◌*◌, min, Bool, true, false, nat_eq, List, [], ◌∷◌, ◌++◌, length, drop, codes, if◌then◌else◌}
-use Rattle.tier_base.specs.Names.{folded, is_name}
-use Rattle.sql_tokens.specs.declared.kind.Kind.{Kind}
-use Rattle.sql_tokens.specs.declared.kind.Kind.TheVariants.{Bad, Comma, Dot, Minus, Null, Text, Timestamp}
-use Rattle.sql_tokens.specs.Kinds.{is_kind}
-use Rattle.sql_tokens.specs.Lexing.{Lexeme}
+use Rattle.sql_query.specs.tier_base.specs.Names.{folded, is_name}
+use Rattle.sql_grammar.specs.sql_tokens.specs.declared.kind.Kind.{Kind}
+use Rattle.sql_grammar.specs.sql_tokens.specs.declared.kind.Kind.TheVariants.{Bad, Comma, Dot, Minus, Null, Text, Timestamp}
+use Rattle.sql_grammar.specs.sql_tokens.specs.Kinds.{is_kind}
+use Rattle.sql_grammar.specs.sql_tokens.specs.Lexing.{Lexeme}
 use Rattle.sql_query.specs.declared.literal.NumberLiteral.{NumberLiteral}
 use Rattle.sql_query.specs.declared.literal.Literal.{Literal}
 use Rattle.sql_query.specs.declared.literal.Literal.TheVariants as literals

@@ -1,14 +1,14 @@
 -- What the tokens at the front say: tables. (TimesTen SQL Reference, "CREATE TABLE", "CREATE CACHE GROUP" and "Type
 -- specifications".)
 use Rattle.std.specs.Prelude.{ℕ, Bool, ◌&&◌, ◌||◌, List, [], ◌∷◌, ◌++◌, length, drop, Option, Some, None, if◌then◌else◌}
-use Rattle.sql_tokens.specs.declared.kind.Kind.{Kind}
-use Rattle.sql_tokens.specs.declared.kind.Kind.TheVariants as k
-use Rattle.sql_tokens.specs.Lexing.{Lexeme}
-use Rattle.row_types.specs.declared.declaration.TypeDeclaration.{TypeDeclaration}
-use Rattle.row_types.specs.declared.declaration.TypeDeclaration.TheVariants as types
-use Rattle.row_types.specs.declared.declaration.ColumnDeclaration.{ColumnDeclaration}
-use Rattle.row_types.specs.declared.declaration.ForeignKeyDeclaration.{ForeignKeyDeclaration}
-use Rattle.row_types.specs.declared.declaration.TableDeclaration.{TableDeclaration}
+use Rattle.sql_grammar.specs.sql_tokens.specs.declared.kind.Kind.{Kind}
+use Rattle.sql_grammar.specs.sql_tokens.specs.declared.kind.Kind.TheVariants as k
+use Rattle.sql_grammar.specs.sql_tokens.specs.Lexing.{Lexeme}
+use Rattle.sql_query.specs.row_types.specs.declared.declaration.TypeDeclaration.{TypeDeclaration}
+use Rattle.sql_query.specs.row_types.specs.declared.declaration.TypeDeclaration.TheVariants as types
+use Rattle.sql_query.specs.row_types.specs.declared.declaration.ColumnDeclaration.{ColumnDeclaration}
+use Rattle.sql_query.specs.row_types.specs.declared.declaration.ForeignKeyDeclaration.{ForeignKeyDeclaration}
+use Rattle.sql_query.specs.row_types.specs.declared.declaration.TableDeclaration.{TableDeclaration}
 use Rattle.sql_phrases.specs.declared.tables.CacheTable.{CacheTable}
 use Rattle.sql_phrases.specs.declared.tables.Element.{Element}
 use Rattle.sql_phrases.specs.declared.tables.Element.TheVariants as elements

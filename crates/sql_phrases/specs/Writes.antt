@@ -1,8 +1,8 @@
 -- What the tokens at the front say: statements that write rows. (TimesTen SQL Reference, "INSERT", "UPDATE" and
 -- "DELETE".)
 use Rattle.std.specs.Prelude.{ℕ, List, [], ◌∷◌, length, drop, Option, Some, None, if◌then◌else◌}
-use Rattle.sql_tokens.specs.declared.kind.Kind.TheVariants as k
-use Rattle.sql_tokens.specs.Lexing.{Lexeme}
+use Rattle.sql_grammar.specs.sql_tokens.specs.declared.kind.Kind.TheVariants as k
+use Rattle.sql_grammar.specs.sql_tokens.specs.Lexing.{Lexeme}
 use Rattle.sql_query.specs.declared.write.Assignment.{Assignment}
 use Rattle.sql_query.specs.declared.write.Delete.{Delete}
 use Rattle.sql_query.specs.declared.write.Insert.{Insert}

@@ -4,11 +4,11 @@ ghost use Rattle.sql_phrases.specs.Conditions.{comparator_of, condition_by, conj
 
 use crate::expression::{read_expression, read_expressions};
 use crate::reader::Reader;
-use expressions::Comparator;
+use sql_grammar::sql_tokens::kind::Kind;
+use sql_grammar::sql_tokens::token::is_kind;
 use sql_grammar::test::Test;
+use sql_query::expressions::Comparator;
 use sql_query::{Condition, Expression};
-use sql_tokens::kind::Kind;
-use sql_tokens::token::is_kind;
 use std::alloc::AllocError;
 
 /// The greatest number of levels that conditions may nest.

@@ -4,13 +4,13 @@ ghost use Rattle.sql_phrases.specs.Expressions.{at_sign, expression_of, expressi
 
 use crate::reader::Reader;
 use crate::reading::{read_column_name, read_literal};
-use expressions::Arithmetic;
+use sql_grammar::sql_tokens::kind::Kind;
+use sql_grammar::sql_tokens::token::is_kind;
 use sql_grammar::test::Test;
 use sql_query::Expression;
-use sql_tokens::kind::Kind;
-use sql_tokens::token::is_kind;
+use sql_query::expressions::Arithmetic;
+use sql_query::tier_base::Seq;
 use std::alloc::AllocError;
-use tier_base::Seq;
 
 fn read_factor(r: Reader<'_>) -> Result<(Expression, Reader<'_>), AllocError>
     ensures { IfOk result (λ x. factor_of r.entry ≡ (x.0, x.1)) }

@@ -8,3 +8,8 @@ pub mod reader;
 pub mod reading;
 pub mod tables;
 pub mod writes;
+
+pub use sql_grammar;
+pub use sql_grammar::sql_tokens;
+pub use sql_query;
+pub use sql_query::{expressions, numbers, row_types, tier_base};

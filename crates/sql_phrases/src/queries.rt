@@ -8,12 +8,12 @@ use crate::conditions::read_filter;
 use crate::expression::read_expression;
 use crate::reader::Reader;
 use crate::reading::{read_column_name, read_column_names, read_identifier, read_name};
+use sql_grammar::sql_tokens::kind::Kind;
+use sql_grammar::sql_tokens::token::is_kind;
 use sql_grammar::test::Test;
+use sql_query::tier_base::{Name, Seq};
 use sql_query::{Aggregate, Expression, FromTable, OrderItem, Query, SelectItem, SelectList};
-use sql_tokens::kind::Kind;
-use sql_tokens::token::is_kind;
 use std::alloc::{AllocError, Global};
-use tier_base::{Name, Seq};
 
 fn folded_by(kind: Kind, expression: Expression) -> Aggregate
     ensures { result ≡ folded_by kind expression }

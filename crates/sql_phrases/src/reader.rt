@@ -1,10 +1,10 @@
 //! The tokens of a line that are still to be read.
 ghost use Rattle.std.specs.Prelude.{◌≡◌, drop, slice_range};
-ghost use Rattle.sql_tokens.specs.Lexing.{lexemes_of};
+ghost use Rattle.sql_grammar.specs.sql_tokens.specs.Lexing.{lexemes_of};
 ghost use Rattle.sql_phrases.specs.Reading.{begins, first_kind, first_text};
 
-use sql_tokens::kind::Kind;
-use sql_tokens::token::{Token, is_kind};
+use sql_grammar::sql_tokens::kind::Kind;
+use sql_grammar::sql_tokens::token::{Token, is_kind};
 use std::alloc::Global;
 use std::marker::Model;
 
@@ -28,7 +28,7 @@ impl<'t> Drop for Reader<'t> {
 
 impl<'t> Model for Reader<'t> {
     ghost use Rattle.std.specs.Prelude.{List};
-    ghost use Rattle.sql_tokens.specs.Lexing.{Lexeme, lexemes_of};
+    ghost use Rattle.sql_grammar.specs.sql_tokens.specs.Lexing.{Lexeme, lexemes_of};
 
     ghost Value = { List Lexeme };
 

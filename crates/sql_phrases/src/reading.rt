@@ -3,11 +3,11 @@ ghost use Rattle.std.specs.Prelude.{◌≡◌, ◌++◌, ◌∷◌, ℕ, List, c
 ghost use Rattle.sql_phrases.specs.Reading.{name_from, identifier_of, name_of, column_of, numeral_of, number_of, halved, unquoted, literal_of, identifiers_of, literals_of, columns_of};
 
 use crate::reader::Reader;
-use row_types::Text;
+use sql_grammar::sql_tokens::kind::Kind;
+use sql_query::row_types::Text;
+use sql_query::tier_base::{Name, NameError, Seq};
 use sql_query::{Literal, NumberLiteral};
-use sql_tokens::kind::Kind;
 use std::alloc::{AllocError, Global};
-use tier_base::{Name, NameError, Seq};
 
 /// The name that stands where the bytes are none, which no line has.
 fn no_name(alloc: Global) -> Result<Name, AllocError>

@@ -1,16 +1,16 @@
 //! Tables, read off the tokens of a line.
 ghost use Rattle.std.specs.Prelude.{◌≡◌, ◌++◌, ◌∷◌, IfOk};
-ghost use Rattle.sql_tokens.specs.declared.kind.Kind.TheVariants.{Comma};
+ghost use Rattle.sql_grammar.specs.sql_tokens.specs.declared.kind.Kind.TheVariants.{Comma};
 ghost use Rattle.sql_phrases.specs.Reading.{begins};
 
 use crate::reader::Reader;
 use crate::reading::{read_identifier, read_identifiers, read_name};
-use row_types::{
+use sql_grammar::sql_tokens::kind::Kind;
+use sql_query::row_types::{
     ColumnDeclaration, ForeignKeyDeclaration, TableDeclaration, Text, TypeDeclaration,
 };
-use sql_tokens::kind::Kind;
+use sql_query::tier_base::{Name, Seq};
 use std::alloc::AllocError;
-use tier_base::{Name, Seq};
 
 /// What may be done to a table of a user-managed cache group. (TimesTen SQL Reference, "CREATE CACHE GROUP".)
 #[derive(Clone, Copy, Debug, PartialEq, Eq)]

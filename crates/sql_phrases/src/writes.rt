@@ -6,10 +6,10 @@ use crate::conditions::read_filter;
 use crate::expression::{read_expression, read_expressions};
 use crate::reader::Reader;
 use crate::reading::{read_identifier, read_identifiers, read_name};
+use sql_grammar::sql_tokens::kind::Kind;
+use sql_query::tier_base::{Name, Seq};
 use sql_query::{Assignment, Delete, Insert, Update, Write};
-use sql_tokens::kind::Kind;
 use std::alloc::AllocError;
-use tier_base::{Name, Seq};
 
 fn read_insert_columns(r: Reader<'_>) -> Result<(Option<Seq<Name>>, Reader<'_>), AllocError>
     ensures { IfOk result (λ x. insert_columns_of r.entry ≡ (x.0, x.1)) }

@@ -3,3 +3,12 @@ pub mod Queries
 pub mod Statements
 pub mod Normal
 pub mod Printed
+pub use Rattle.sql_subset.specs.tier_base
+pub use Rattle.sql_subset.specs.sql_tokens
+pub use Rattle.sql_subset.specs.row_types
+pub use Rattle.sql_subset.specs.sql_grammar
+pub use Rattle.sql_words.specs.expressions
+pub use Rattle.sql_subset.specs.sql_query
+pub use Rattle.sql_subset.specs.sql_phrases
+pub use Rattle.sql_subset
+pub use Rattle.sql_words

@@ -1,8 +1,8 @@
 -- What is printed.
 use Rattle.std.specs.Prelude.{ℕ, List, [], ◌∷◌, ◌++◌, codes, None}
 use Rattle.std.specs.List.{flat_map}
-use Rattle.row_types.specs.declared.declaration.TableDeclaration.{TableDeclaration}
-use Rattle.sql_query.specs.declared.write.Write.{Write}
+use Rattle.sql_subset.specs.row_types.specs.declared.declaration.TableDeclaration.{TableDeclaration}
+use Rattle.sql_subset.specs.sql_query.specs.declared.write.Write.{Write}
 use Rattle.sql_subset.specs.declared.stmt.Stmt.{Stmt}
 use Rattle.sql_words.specs.Words.{Word, joined}
 use Rattle.sql_words.specs.Tables.{table_words}

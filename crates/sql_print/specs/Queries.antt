@@ -1,17 +1,17 @@
 -- The words of queries and writes (this project's rule).
 use Rattle.std.specs.Prelude.{ℕ, Bool, List, [], ◌∷◌, ◌++◌, codes, Option, Some, None, if◌then◌else◌}
-use Rattle.sql_query.specs.declared.query.Aggregate.{Aggregate}
-use Rattle.sql_query.specs.declared.query.Aggregate.TheVariants as aggregates
-use Rattle.sql_query.specs.declared.query.FromTable.{FromTable}
-use Rattle.sql_query.specs.declared.query.OrderItem.{OrderItem}
-use Rattle.sql_query.specs.declared.query.Query.{Query}
-use Rattle.sql_query.specs.declared.query.SelectItem.{SelectItem}
-use Rattle.sql_query.specs.declared.query.SelectItem.TheVariants as items
-use Rattle.sql_query.specs.declared.query.SelectList.{SelectList}
-use Rattle.sql_query.specs.declared.query.SelectList.TheVariants as lists
-use Rattle.sql_query.specs.declared.write.Assignment.{Assignment}
-use Rattle.sql_query.specs.declared.write.Write.{Write}
-use Rattle.sql_query.specs.declared.write.Write.TheVariants as writes
+use Rattle.sql_subset.specs.sql_query.specs.declared.query.Aggregate.{Aggregate}
+use Rattle.sql_subset.specs.sql_query.specs.declared.query.Aggregate.TheVariants as aggregates
+use Rattle.sql_subset.specs.sql_query.specs.declared.query.FromTable.{FromTable}
+use Rattle.sql_subset.specs.sql_query.specs.declared.query.OrderItem.{OrderItem}
+use Rattle.sql_subset.specs.sql_query.specs.declared.query.Query.{Query}
+use Rattle.sql_subset.specs.sql_query.specs.declared.query.SelectItem.{SelectItem}
+use Rattle.sql_subset.specs.sql_query.specs.declared.query.SelectItem.TheVariants as items
+use Rattle.sql_subset.specs.sql_query.specs.declared.query.SelectList.{SelectList}
+use Rattle.sql_subset.specs.sql_query.specs.declared.query.SelectList.TheVariants as lists
+use Rattle.sql_subset.specs.sql_query.specs.declared.write.Assignment.{Assignment}
+use Rattle.sql_subset.specs.sql_query.specs.declared.write.Write.{Write}
+use Rattle.sql_subset.specs.sql_query.specs.declared.write.Write.TheVariants as writes
 use Rattle.sql_words.specs.Words.{Word, enclosed, listed, name_words, column_name_words, identifier_words}
 use Rattle.sql_words.specs.Trees.{expression_words, filter_words}
 

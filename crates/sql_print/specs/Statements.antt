@@ -1,7 +1,7 @@
 -- The words of statements (this project's rule).
 use Rattle.std.specs.Prelude.{ℕ, List, [], ◌∷◌, ◌++◌, codes, Option, Some, None}
 use Rattle.std.specs.Fmt.{decimal}
-use Rattle.sql_query.specs.declared.literal.Literal.{Literal}
+use Rattle.sql_subset.specs.sql_query.specs.declared.literal.Literal.{Literal}
 use Rattle.sql_subset.specs.declared.stmt.CreateIndex.{CreateIndex}
 use Rattle.sql_subset.specs.declared.stmt.Load as loads
 use Rattle.sql_subset.specs.declared.stmt.OfGroup.{OfGroup}

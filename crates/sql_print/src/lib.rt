@@ -7,3 +7,6 @@ pub mod print;
 mod query;
 mod statement;
 mod write;
+
+pub use sql_subset;
+pub use sql_subset::{numbers, row_types, sql_query, tier_base};

@@ -4,8 +4,8 @@ ghost use Rattle.sql_print.specs.Printed.{printed, printed_table, printed_writes
 
 use crate::statement::{first_words, put_rest};
 use crate::write::{first_write_words, put_more_writes, put_write_rest};
-use row_types::{TableDeclaration, Text};
-use sql_query::Write;
+use sql_subset::row_types::{TableDeclaration, Text};
+use sql_subset::sql_query::Write;
 use sql_subset::stmt::Stmt;
 use sql_words::table::put_table;
 use std::alloc::{AllocError, Global};

@@ -4,12 +4,14 @@ ghost use Rattle.sql_print.specs.Queries.{aggregate_words, alias_words, directio
 ghost use Rattle.sql_words.specs.Trees.{expression_words};
 ghost use Rattle.sql_words.specs.Words.{column_name_words, enclosed, listed, more, spaced};
 
-use sql_query::{Aggregate, Expression, FromTable, OrderItem, Query, SelectItem, SelectList};
+use sql_subset::sql_query::{
+    Aggregate, Expression, FromTable, OrderItem, Query, SelectItem, SelectList,
+};
+use sql_subset::tier_base::Name;
 use sql_words::condition::put_filter;
 use sql_words::expression::{put_expression, put_listed};
 use sql_words::word::{put, put_column_name, put_name};
 use std::alloc::AllocError;
-use tier_base::Name;
 
 fn put_operand(out: &mut Vec<u8>, expression: &Expression) -> Result<(), AllocError>
     ensures { OnOk result (out.new.items ≡ out.old.items ++ spaced (enclosed (expression_words expression.now))) }

@@ -8,13 +8,13 @@ ghost use Rattle.sql_words.specs.Words.{joined, name_words, spaced};
 use crate::group::{put_group, state_word};
 use crate::query::put_query;
 use crate::write::{first_write_words, put_write_rest};
-use sql_query::Literal;
+use sql_subset::sql_query::Literal;
 use sql_subset::stmt::{Alter, Call, CreateIndex, Load, OfGroup, Stmt, Which};
+use sql_subset::tier_base::Seq;
 use sql_words::condition::put_filter;
 use sql_words::literal::put_literals;
 use sql_words::word::{put, put_name, put_names, put_number};
 use std::alloc::{AllocError, Global};
-use tier_base::Seq;
 
 fn put_id(out: &mut Vec<u8>, id: &Option<Seq<Literal>>) -> Result<(), AllocError>
     ensures { OnOk result (out.new.items ≡ out.old.items ++ spaced (id_words id.now)) }

@@ -1,16 +1,16 @@
 //! Statements that write rows, behind what is printed so far.
 ghost use Rattle.std.specs.Prelude.{◌≡◌, ◌++◌, ◌∷◌, [], OnOk, codes};
-ghost use Rattle.sql_query.specs.declared.write.Write.TheVariants.{Insert as InsertOf};
+ghost use Rattle.sql_subset.specs.sql_query.specs.declared.write.Write.TheVariants.{Insert as InsertOf};
 ghost use Rattle.sql_print.specs.Printed.{more_write_words};
 ghost use Rattle.sql_print.specs.Queries.{assignment_words, insert_column_words, write_rest_words, write_words};
 ghost use Rattle.sql_words.specs.Words.{joined, listed, more, spaced};
 
-use sql_query::{Assignment, Insert, Write};
+use sql_subset::sql_query::{Assignment, Insert, Write};
+use sql_subset::tier_base::{Name, Seq};
 use sql_words::condition::put_filter;
 use sql_words::expression::{put_expression, put_expressions};
 use sql_words::word::{put, put_name, put_names};
 use std::alloc::AllocError;
-use tier_base::{Name, Seq};
 
 fn put_insert_columns(out: &mut Vec<u8>, columns: &Option<Seq<Name>>) -> Result<(), AllocError>
     ensures { OnOk result (out.new.items ≡ out.old.items ++ spaced (insert_column_words columns.now)) }

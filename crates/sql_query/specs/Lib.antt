@@ -3,3 +3,7 @@ pub mod Literals
 pub mod TreeCodes
 pub mod Trees
 pub mod Views
+pub use Rattle.expressions.specs.numbers
+pub use Rattle.expressions.specs.tier_base
+pub use Rattle.expressions.specs.row_types
+pub use Rattle.expressions

@@ -3,10 +3,10 @@
 
 use Rattle.std.specs.Prelude.{ℕ, List, ◌∷◌, Option, Some, if◌then◌else◌}
 use Rattle.std.specs.Option.{option_map}
-use Rattle.row_types.specs.declared.value.Value.{Value}
-use Rattle.row_types.specs.declared.value.Value.TheVariants as value
-use Rattle.row_types.specs.Literals.{held_text, number_value}
-use Rattle.row_types.specs.TimeTexts.{time_of}
+use Rattle.expressions.specs.row_types.specs.declared.value.Value.{Value}
+use Rattle.expressions.specs.row_types.specs.declared.value.Value.TheVariants as value
+use Rattle.expressions.specs.row_types.specs.Literals.{held_text, number_value}
+use Rattle.expressions.specs.row_types.specs.TimeTexts.{time_of}
 use Rattle.sql_query.specs.declared.literal.NumberLiteral.{NumberLiteral}
 use Rattle.sql_query.specs.declared.literal.Literal.{Literal}
 use Rattle.sql_query.specs.declared.literal.Literal.TheVariants.{Null, Number, Text, Time}

@@ -5,9 +5,9 @@ ghost use Rattle.sql_query.specs.Trees.{All, Among, Any, Between, Compared, Miss
 
 use crate::expression::Expression;
 use expressions::Comparator;
+use expressions::tier_base::Seq;
 use std::alloc::{AllocError, Global};
 use std::marker::Model;
-use tier_base::Seq;
 
 /// A condition with the names of columns. Clauses see a tree without boxes, a `ConditionTree`.
 #[cycle(condition)]

@@ -5,9 +5,9 @@ ghost use Rattle.sql_query.specs.Trees.{Binary, Column, Constant};
 
 use crate::literal::Literal;
 use expressions::Arithmetic;
+use expressions::tier_base::Name;
 use std::alloc::{AllocError, Global};
 use std::marker::Model;
-use tier_base::Name;
 
 /// An expression with the names of columns. Clauses see a tree without boxes, an `ExpressionTree`.
 #[cycle(expression)]

@@ -9,6 +9,8 @@ pub mod write;
 
 pub use condition::{Condition, ConditionNode};
 pub use expression::{Expression, ExpressionNode};
+pub use expressions;
+pub use expressions::{numbers, row_types, tier_base};
 pub use literal::{Literal, NumberLiteral};
 pub use query::{Aggregate, FromTable, OrderItem, Query, SelectItem, SelectList};
 pub use write::{Assignment, Delete, Insert, Update, Write};

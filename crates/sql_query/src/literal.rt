@@ -1,11 +1,11 @@
 //! Literals as they are written.
 
 ghost use Rattle.std.specs.Prelude.{◌≡◌, IfOk};
-ghost use Rattle.numbers.specs.NumberTexts.{number_read};
+ghost use Rattle.expressions.specs.numbers.specs.NumberTexts.{number_read};
 ghost use Rattle.sql_query.specs.Literals.{signed_digits, value_of};
 
-use numbers::Number;
-use row_types::{Text, Time, Value, held_text};
+use expressions::numbers::Number;
+use expressions::row_types::{Text, Time, Value, held_text};
 use std::alloc::{AllocError, Global};
 
 /// A number as it is written. Blanks between its sign and its digits don't count.

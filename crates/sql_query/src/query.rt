@@ -2,7 +2,7 @@
 
 use crate::condition::Condition;
 use crate::expression::Expression;
-use tier_base::{Name, Seq};
+use expressions::tier_base::{Name, Seq};
 
 /// `SELECT list FROM table [alias], .. [WHERE condition] [GROUP BY column, ..] [ORDER BY column [ASC|DESC], ..]`
 pub struct Query {

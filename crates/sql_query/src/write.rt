@@ -2,7 +2,7 @@
 
 use crate::condition::Condition;
 use crate::expression::Expression;
-use tier_base::{Name, Seq};
+use expressions::tier_base::{Name, Seq};
 
 /// A statement that writes rows.
 pub enum Write {

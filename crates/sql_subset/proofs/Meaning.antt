@@ -1,17 +1,17 @@
 -- What a line says: the answer is right, and no other is.
 use Rattle.std.proofs.Common.{◌≡◌, ℕ, Bool, true, false, nat_lt, ◌≤◌, List, [], ◌∷◌, length, slice_range, Option, Some, None, Ok, Err, refl, sym, ap, ◌∙◌, subst, arith}
 use Rattle.std.proofs.lemmas.Bool.Decides.{nat_tests}
-use Rattle.sql_tokens.specs.declared.kind.Kind.{Kind}
-use Rattle.sql_tokens.specs.declared.token.Token.{Token}
-use Rattle.sql_tokens.specs.Lexing.{Lexeme, lexed, lexemes_of}
-use Rattle.sql_tokens.specs.Heads.{head_start, head_of, head_end, good_length}
-use Rattle.sql_grammar.specs.declared.start.Start.{Start}
-use Rattle.sql_grammar.specs.declared.start.Start.TheVariants as starts
-use Rattle.sql_grammar.specs.declared.engine.Verdict.{Verdict}
-use Rattle.sql_grammar.specs.declared.engine.Verdict.TheVariants as verdicts
-use Rattle.sql_grammar.specs.Grammar.{Grammar}
-use Rattle.sql_grammar.specs.Sql.{grammar_of}
-use Rattle.sql_grammar.specs.Verdict.{kinds_of, Judged}
+use Rattle.sql_phrases.specs.sql_tokens.specs.declared.kind.Kind.{Kind}
+use Rattle.sql_phrases.specs.sql_tokens.specs.declared.token.Token.{Token}
+use Rattle.sql_phrases.specs.sql_tokens.specs.Lexing.{Lexeme, lexed, lexemes_of}
+use Rattle.sql_phrases.specs.sql_tokens.specs.Heads.{head_start, head_of, head_end, good_length}
+use Rattle.sql_phrases.specs.sql_grammar.specs.declared.start.Start.{Start}
+use Rattle.sql_phrases.specs.sql_grammar.specs.declared.start.Start.TheVariants as starts
+use Rattle.sql_phrases.specs.sql_grammar.specs.declared.engine.Verdict.{Verdict}
+use Rattle.sql_phrases.specs.sql_grammar.specs.declared.engine.Verdict.TheVariants as verdicts
+use Rattle.sql_phrases.specs.sql_grammar.specs.Grammar.{Grammar}
+use Rattle.sql_phrases.specs.sql_grammar.specs.Sql.{grammar_of}
+use Rattle.sql_phrases.specs.sql_grammar.specs.Verdict.{kinds_of, Judged}
 use Rattle.sql_subset.specs.declared.request.Line.{Line}
 use Rattle.sql_subset.specs.declared.request.ParseError.{ParseError}
 use Rattle.sql_subset.specs.declared.request.ParseError.TheVariants as e

@@ -1,8 +1,8 @@
 -- What is read is no longer there: the tables of a group.
 use Rattle.std.proofs.Common.{ℕ, ◌≤◌, true, false, List, length, drop, Option, None, arith}
-use Rattle.sql_tokens.specs.declared.kind.Kind.TheVariants as k
-use Rattle.sql_tokens.specs.Lexing.{Lexeme}
-use Rattle.sql_query.specs.Trees.{ConditionTree}
+use Rattle.sql_phrases.specs.sql_tokens.specs.declared.kind.Kind.TheVariants as k
+use Rattle.sql_phrases.specs.sql_tokens.specs.Lexing.{Lexeme}
+use Rattle.sql_phrases.specs.sql_query.specs.Trees.{ConditionTree}
 use Rattle.sql_phrases.specs.declared.tables.CacheTable.{CacheTable}
 use Rattle.sql_phrases.specs.Reading.{begins}
 use Rattle.sql_phrases.specs.Conditions.{filter_of}

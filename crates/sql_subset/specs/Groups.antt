@@ -1,10 +1,10 @@
 -- What the tokens at the front say: cache groups. (TimesTen SQL Reference, "CREATE CACHE GROUP".)
 use Rattle.std.specs.Prelude.{ℕ, ◌*◌, Bool, true, false, List, length, drop, Option, Some, None, if◌then◌else◌}
-use Rattle.sql_tokens.specs.declared.kind.Kind.{Kind}
-use Rattle.sql_tokens.specs.declared.kind.Kind.TheVariants as k
-use Rattle.sql_tokens.specs.Kinds.{is_kind}
-use Rattle.sql_tokens.specs.Lexing.{Lexeme}
-use Rattle.sql_query.specs.Trees.{ConditionTree}
+use Rattle.sql_phrases.specs.sql_tokens.specs.declared.kind.Kind.{Kind}
+use Rattle.sql_phrases.specs.sql_tokens.specs.declared.kind.Kind.TheVariants as k
+use Rattle.sql_phrases.specs.sql_tokens.specs.Kinds.{is_kind}
+use Rattle.sql_phrases.specs.sql_tokens.specs.Lexing.{Lexeme}
+use Rattle.sql_phrases.specs.sql_query.specs.Trees.{ConditionTree}
 use Rattle.sql_phrases.specs.declared.tables.CacheTable.{CacheTable}
 use Rattle.sql_phrases.specs.declared.tables.TableAttribute.{TableAttribute}
 use Rattle.sql_phrases.specs.declared.tables.TableAttribute.TheVariants as attributes

@@ -1,14 +1,14 @@
 -- What a request line says.
 use Rattle.std.specs.Prelude.{ℕ, ◌≡◌, Bool, true, false, nat_eq, nat_lt, List, [], ◌∷◌, length, slice_get, drop, map, codes, bytes_eq, Option, Some, None, Result, Ok, Err, if◌then◌else◌}
-use Rattle.tier_base.specs.Labels.{is_label}
-use Rattle.sql_tokens.specs.declared.kind.Kind.{Kind}
-use Rattle.sql_tokens.specs.Lexing.{Lexeme, lexed}
-use Rattle.sql_tokens.specs.Heads.{head_of, head_end, good_length}
-use Rattle.sql_grammar.specs.declared.start.Start.{Start}
-use Rattle.sql_grammar.specs.declared.start.Start.TheVariants as starts
-use Rattle.sql_grammar.specs.declared.engine.Verdict.TheVariants as verdicts
-use Rattle.sql_grammar.specs.Sql.{grammar_of}
-use Rattle.sql_grammar.specs.Verdict.{IsSpelt, Judged}
+use Rattle.sql_phrases.specs.tier_base.specs.Labels.{is_label}
+use Rattle.sql_phrases.specs.sql_tokens.specs.declared.kind.Kind.{Kind}
+use Rattle.sql_phrases.specs.sql_tokens.specs.Lexing.{Lexeme, lexed}
+use Rattle.sql_phrases.specs.sql_tokens.specs.Heads.{head_of, head_end, good_length}
+use Rattle.sql_phrases.specs.sql_grammar.specs.declared.start.Start.{Start}
+use Rattle.sql_phrases.specs.sql_grammar.specs.declared.start.Start.TheVariants as starts
+use Rattle.sql_phrases.specs.sql_grammar.specs.declared.engine.Verdict.TheVariants as verdicts
+use Rattle.sql_phrases.specs.sql_grammar.specs.Sql.{grammar_of}
+use Rattle.sql_phrases.specs.sql_grammar.specs.Verdict.{IsSpelt, Judged}
 use Rattle.sql_subset.specs.declared.stmt.Stmt.{Stmt}
 use Rattle.sql_subset.specs.declared.request.Line.{Line}
 use Rattle.sql_subset.specs.declared.request.Line.TheVariants as line

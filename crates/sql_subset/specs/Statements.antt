@@ -1,13 +1,13 @@
 -- What the tokens say: statements and requests. (TimesTen SQL Reference, "SQL statements"; the lines of sessions, of
 -- the console and of the clock are this project's rule.)
 use Rattle.std.specs.Prelude.{ℕ, Bool, ◌&&◌, ◌||◌, List, [], length, drop, Option, Some, None, if◌then◌else◌}
-use Rattle.sql_tokens.specs.declared.kind.Kind.{Kind}
-use Rattle.sql_tokens.specs.declared.kind.Kind.TheVariants as k
-use Rattle.sql_tokens.specs.Kinds.{is_kind}
-use Rattle.sql_tokens.specs.Lexing.{Lexeme}
-use Rattle.sql_query.specs.declared.literal.Literal.{Literal}
-use Rattle.sql_query.specs.declared.write.Write.{Write}
-use Rattle.sql_query.specs.Trees.{ConditionTree}
+use Rattle.sql_phrases.specs.sql_tokens.specs.declared.kind.Kind.{Kind}
+use Rattle.sql_phrases.specs.sql_tokens.specs.declared.kind.Kind.TheVariants as k
+use Rattle.sql_phrases.specs.sql_tokens.specs.Kinds.{is_kind}
+use Rattle.sql_phrases.specs.sql_tokens.specs.Lexing.{Lexeme}
+use Rattle.sql_phrases.specs.sql_query.specs.declared.literal.Literal.{Literal}
+use Rattle.sql_phrases.specs.sql_query.specs.declared.write.Write.{Write}
+use Rattle.sql_phrases.specs.sql_query.specs.Trees.{ConditionTree}
 use Rattle.sql_phrases.specs.Reading.{begins, first_kind, first_text, identifier_of, name_of, number_of, identifiers_of, literals_of, chained, with_last, as_list}
 use Rattle.sql_phrases.specs.Conditions.{filter_of}
 use Rattle.sql_phrases.specs.Queries.{query_of}

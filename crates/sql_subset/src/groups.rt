@@ -10,11 +10,11 @@ use crate::stmt::{
 use sql_phrases::conditions::read_filter;
 use sql_phrases::reader::Reader;
 use sql_phrases::reading::{number_of, read_identifier, read_name};
+use sql_phrases::sql_tokens::kind::Kind;
+use sql_phrases::sql_tokens::token::is_kind;
 use sql_phrases::tables::{CacheTable, TableAttribute, past_word, read_table};
-use sql_tokens::kind::Kind;
-use sql_tokens::token::is_kind;
+use sql_phrases::tier_base::Seq;
 use std::alloc::AllocError;
-use tier_base::Seq;
 
 fn milliseconds_of(unit: Kind) -> u64
     ensures { result ≡ milliseconds_of unit }

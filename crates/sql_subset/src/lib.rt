@@ -6,3 +6,5 @@ pub mod line;
 pub mod request;
 mod statements;
 pub mod stmt;
+
+pub use sql_phrases::{numbers, row_types, sql_query, tier_base};

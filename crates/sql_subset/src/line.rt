@@ -1,20 +1,20 @@
 //! Request lines, from their bytes.
 ghost use Rattle.std.specs.Prelude.{◌≡◌, ◌≤◌, ℕ, List, length, IfOk};
-ghost use Rattle.sql_tokens.specs.Lexing.{lexemes_of, lexed};
+ghost use Rattle.sql_phrases.specs.sql_tokens.specs.Lexing.{lexemes_of, lexed};
 ghost use Rattle.sql_subset.specs.Lines.{is_silent, start_of, place_at, line_of, Told, Answers, Parses, Means, Saying};
 
 use crate::request::{Line, ParseError};
 use crate::statements::{read_clock, read_console, read_request, read_statement};
 use crate::stmt::Stmt;
-use sql_grammar::engine::{Verdict, one_verdict, recognize};
-use sql_grammar::start::Start;
 use sql_phrases::reader::Reader;
-use sql_tokens::head::{good_length, head};
-use sql_tokens::lexer::lex;
-use sql_tokens::token::Token;
+use sql_phrases::sql_grammar::engine::{Verdict, one_verdict, recognize};
+use sql_phrases::sql_grammar::start::Start;
+use sql_phrases::sql_tokens::head::{good_length, head};
+use sql_phrases::sql_tokens::lexer::lex;
+use sql_phrases::sql_tokens::token::Token;
+use sql_phrases::tier_base::Label;
+use sql_phrases::tier_base::label::spells_label;
 use std::alloc::{AllocError, Global};
-use tier_base::Label;
-use tier_base::label::spells_label;
 
 /// Whether the line is empty or a comment, which has no reply.
 pub fn is_silent(bytes: &[u8]) -> bool

@@ -1,9 +1,9 @@
 //! Request lines.
 
 use crate::stmt::Stmt;
-use row_types::TableDeclaration;
-use sql_query::Write;
-use tier_base::{Label, Seq};
+use sql_phrases::row_types::TableDeclaration;
+use sql_phrases::sql_query::Write;
+use sql_phrases::tier_base::{Label, Seq};
 
 /// `OPEN [PASSTHROUGH n] [DURABLE n]`
 #[derive(Clone, Copy, Debug, PartialEq, Eq)]

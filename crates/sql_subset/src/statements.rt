@@ -11,13 +11,13 @@ use sql_phrases::reader::Reader;
 use sql_phrases::reading::{
     number_of, read_identifier, read_identifiers, read_literals, read_name,
 };
+use sql_phrases::sql_query::{Literal, Write};
+use sql_phrases::sql_tokens::kind::Kind;
+use sql_phrases::sql_tokens::token::is_kind;
 use sql_phrases::tables::read_table;
+use sql_phrases::tier_base::{Name, Seq};
 use sql_phrases::writes::read_write;
-use sql_query::{Literal, Write};
-use sql_tokens::kind::Kind;
-use sql_tokens::token::is_kind;
 use std::alloc::AllocError;
-use tier_base::{Name, Seq};
 
 /// Whether a write stands behind the `;` in front.
 fn goes_on(r: &Reader<'_>) -> bool

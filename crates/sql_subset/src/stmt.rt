@@ -1,9 +1,9 @@
 //! Statements.
 
-use row_types::TableDeclaration;
+use sql_phrases::row_types::TableDeclaration;
+use sql_phrases::sql_query::{Condition, Literal, Query, Write};
 use sql_phrases::tables::TableAttribute;
-use sql_query::{Condition, Literal, Query, Write};
-use tier_base::{Name, Seq};
+use sql_phrases::tier_base::{Name, Seq};
 
 /// The kind of a cache group. (TimesTen SQL Reference, "CREATE CACHE GROUP".)
 #[derive(Clone, Copy, Debug, PartialEq, Eq)]

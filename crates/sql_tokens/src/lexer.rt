@@ -250,7 +250,8 @@ pub fn lex(alloc: Global, line: &[u8], from: usize) -> Result<Vec<Token>, AllocE
     requires { from ≤ length line.now }
     ensures { IfOk result (λ tokens. lexemes_of line.now tokens.items ≡ lexed from line.now) }
 {
-    let mut tokens = Vec::new(alloc);
+    // Few lines have more than a token of each three bytes.
+    let mut tokens = Vec::with_capacity(alloc, (line.len() - from) / 3 + 2)?;
     let mut state = State::Blank;
     for i in from..line.len() {
         state = go_on(&mut tokens, line, state, i)?;

@@ -2,7 +2,7 @@
 use Rattle.std.proofs.Common.{◌≡◌, ℕ, List, [], ◌∷◌, ◌++◌, map, Option, refl, ap}
 use Rattle.std.specs.Option.{option_or}
 use Rattle.std.proofs.lemmas.List.Folds.{flat_map-map}
-use Rattle.row_types.specs.declared.declaration.TableDeclaration.{TableDeclaration}
+use Rattle.sql_phrases.specs.row_types.specs.declared.declaration.TableDeclaration.{TableDeclaration}
 use Rattle.sql_words.specs.Words.{Word, listed}
 use Rattle.sql_words.specs.Tables.{column_words, key_words, foreign_words, element_words}
 use Rattle.sql_words.specs.NormalTables.{foreign_columns, normal_column, with_key}

@@ -3,11 +3,11 @@
 use Rattle.std.specs.Prelude.{ℕ, Bool, nat_eq, ◌||◌, ◌&&◌, List, [], ◌∷◌, map, codes, bytes_eq, Option, Some, None, if◌then◌else◌}
 use Rattle.std.specs.List.{filter, list_any}
 use Rattle.std.specs.Option.{option_or, is_none}
-use Rattle.row_types.specs.declared.declaration.TypeDeclaration.{TypeDeclaration}
-use Rattle.row_types.specs.declared.declaration.TypeDeclaration.TheVariants as types
-use Rattle.row_types.specs.declared.declaration.ColumnDeclaration.{ColumnDeclaration}
-use Rattle.row_types.specs.declared.declaration.ForeignKeyDeclaration.{ForeignKeyDeclaration}
-use Rattle.row_types.specs.declared.declaration.TableDeclaration.{TableDeclaration}
+use Rattle.sql_phrases.specs.row_types.specs.declared.declaration.TypeDeclaration.{TypeDeclaration}
+use Rattle.sql_phrases.specs.row_types.specs.declared.declaration.TypeDeclaration.TheVariants as types
+use Rattle.sql_phrases.specs.row_types.specs.declared.declaration.ColumnDeclaration.{ColumnDeclaration}
+use Rattle.sql_phrases.specs.row_types.specs.declared.declaration.ForeignKeyDeclaration.{ForeignKeyDeclaration}
+use Rattle.sql_phrases.specs.row_types.specs.declared.declaration.TableDeclaration.{TableDeclaration}
 
 -- digits without the zeros in front; no digits are 0
 abbrev pub by_value : List ℕ → List ℕ

@@ -1,10 +1,10 @@
 -- The words of a table (this project's rule).
 use Rattle.std.specs.Prelude.{ℕ, Bool, List, [], ◌∷◌, ◌++◌, codes, Option, Some, None}
-use Rattle.row_types.specs.declared.declaration.TypeDeclaration.{TypeDeclaration}
-use Rattle.row_types.specs.declared.declaration.TypeDeclaration.TheVariants as types
-use Rattle.row_types.specs.declared.declaration.ColumnDeclaration.{ColumnDeclaration}
-use Rattle.row_types.specs.declared.declaration.ForeignKeyDeclaration.{ForeignKeyDeclaration}
-use Rattle.row_types.specs.declared.declaration.TableDeclaration.{TableDeclaration}
+use Rattle.sql_phrases.specs.row_types.specs.declared.declaration.TypeDeclaration.{TypeDeclaration}
+use Rattle.sql_phrases.specs.row_types.specs.declared.declaration.TypeDeclaration.TheVariants as types
+use Rattle.sql_phrases.specs.row_types.specs.declared.declaration.ColumnDeclaration.{ColumnDeclaration}
+use Rattle.sql_phrases.specs.row_types.specs.declared.declaration.ForeignKeyDeclaration.{ForeignKeyDeclaration}
+use Rattle.sql_phrases.specs.row_types.specs.declared.declaration.TableDeclaration.{TableDeclaration}
 use Rattle.sql_phrases.specs.declared.tables.TableAttribute.TheVariants as attributes
 use Rattle.sql_phrases.specs.declared.tables.TableAttribute.{TableAttribute}
 use Rattle.sql_words.specs.Words.{Word, where_so, enclosed, listed, name_words, identifier_words}

@@ -1,10 +1,10 @@
 -- The words of expressions and conditions (this project's rule): parentheses stand exactly where the tree needs them.
 use Rattle.std.specs.Prelude.{Bool, true, false, List, [], ◌∷◌, ◌++◌, codes, Option, Some, None}
-use Rattle.expressions.specs.declared.condition.Comparator.{Comparator}
-use Rattle.expressions.specs.declared.condition.Comparator.TheVariants as comparators
-use Rattle.expressions.specs.declared.expression.Arithmetic.{Arithmetic}
-use Rattle.expressions.specs.declared.expression.Arithmetic.TheVariants as arithmetic
-use Rattle.sql_query.specs.Trees.{ExpressionTree, ConditionTree, Constant, Column, Binary, Compared, Missing, Between, Among, Not, All, Any}
+use Rattle.sql_phrases.specs.expressions.specs.declared.condition.Comparator.{Comparator}
+use Rattle.sql_phrases.specs.expressions.specs.declared.condition.Comparator.TheVariants as comparators
+use Rattle.sql_phrases.specs.expressions.specs.declared.expression.Arithmetic.{Arithmetic}
+use Rattle.sql_phrases.specs.expressions.specs.declared.expression.Arithmetic.TheVariants as arithmetic
+use Rattle.sql_phrases.specs.sql_query.specs.Trees.{ExpressionTree, ConditionTree, Constant, Column, Binary, Compared, Missing, Between, Among, Not, All, Any}
 use Rattle.sql_words.specs.declared.condition.Strength.{Strength}
 use Rattle.sql_words.specs.declared.condition.Strength.TheVariants.{Loose, Middle, Tight}
 use Rattle.sql_words.specs.Words.{Word, where_so, enclosed, listed, column_name_words, literal_words}

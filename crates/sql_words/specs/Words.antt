@@ -1,10 +1,10 @@
 -- Words, names and literals as they are printed (this project's rule).
 use Rattle.std.specs.Prelude.{ℕ, ◌+◌, Bool, nat_eq, List, [], ◌∷◌, ◌++◌, take, drop, codes, Option, Some, None, if◌then◌else◌}
 use Rattle.std.specs.List.{position, flat_map}
-use Rattle.row_types.specs.Printing.{quoted}
-use Rattle.sql_query.specs.declared.literal.Literal.{Literal}
-use Rattle.sql_query.specs.declared.literal.Literal.TheVariants as literals
-use Rattle.sql_query.specs.Literals.{signed_digits}
+use Rattle.sql_phrases.specs.row_types.specs.Printing.{quoted}
+use Rattle.sql_phrases.specs.sql_query.specs.declared.literal.Literal.{Literal}
+use Rattle.sql_phrases.specs.sql_query.specs.declared.literal.Literal.TheVariants as literals
+use Rattle.sql_phrases.specs.sql_query.specs.Literals.{signed_digits}
 
 -- one word, as its bytes
 abbrev pub Word : Type 0

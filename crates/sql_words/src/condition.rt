@@ -5,10 +5,10 @@ ghost use Rattle.sql_words.specs.Words.{spaced, where_so};
 
 use crate::expression::{put_expression, put_expressions};
 use crate::word::put;
-use expressions::Comparator;
-use sql_query::{Condition, ConditionNode, Expression};
+use sql_phrases::expressions::Comparator;
+use sql_phrases::sql_query::{Condition, ConditionNode, Expression};
+use sql_phrases::tier_base::Seq;
 use std::alloc::AllocError;
-use tier_base::Seq;
 
 /// How strongly what stands beside a condition binds.
 #[derive(Clone, Copy, Debug, PartialEq, Eq)]

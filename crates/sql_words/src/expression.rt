@@ -5,8 +5,8 @@ ghost use Rattle.sql_words.specs.Words.{enclosed, listed, more, spaced};
 
 use crate::literal::put_literal;
 use crate::word::{put, put_column_name};
-use expressions::Arithmetic;
-use sql_query::{Expression, ExpressionNode};
+use sql_phrases::expressions::Arithmetic;
+use sql_phrases::sql_query::{Expression, ExpressionNode};
 use std::alloc::AllocError;
 
 fn operation_word(operation: Arithmetic) -> &'static [u8]

@@ -1,11 +1,11 @@
 //! Literals behind what is printed so far.
 ghost use Rattle.std.specs.Prelude.{◌≡◌, ◌++◌, ◌∷◌, OnOk};
-ghost use Rattle.row_types.specs.Printing.{doubled_quote, quoted};
-ghost use Rattle.sql_query.specs.Literals.{signed_digits};
+ghost use Rattle.sql_phrases.specs.row_types.specs.Printing.{doubled_quote, quoted};
+ghost use Rattle.sql_phrases.specs.sql_query.specs.Literals.{signed_digits};
 ghost use Rattle.sql_words.specs.Words.{enclosed, listed, literal_words, more, spaced};
 
 use crate::word::put;
-use sql_query::{Literal, NumberLiteral};
+use sql_phrases::sql_query::{Literal, NumberLiteral};
 use std::alloc::AllocError;
 
 fn put_signed(out: &mut Vec<u8>, number: &NumberLiteral) -> Result<(), AllocError>

@@ -6,12 +6,12 @@ ghost use Rattle.sql_words.specs.Tables.{attribute_words, cascade_words, column_
 ghost use Rattle.sql_words.specs.Words.{enclosed, listed, more, spaced};
 
 use crate::word::{put, put_name, put_names};
-use row_types::{
+use sql_phrases::row_types::{
     ColumnDeclaration, ForeignKeyDeclaration, TableDeclaration, Text, TypeDeclaration,
 };
 use sql_phrases::tables::TableAttribute;
+use sql_phrases::tier_base::{Name, Seq};
 use std::alloc::{AllocError, Global};
-use tier_base::{Name, Seq};
 
 /// The digits without the zeros in front.
 fn by_value(digits: &[u8]) -> &[u8]

@@ -5,8 +5,8 @@ ghost use Rattle.std.specs.List.{position};
 ghost use Rattle.sql_words.specs.Words.{column_name_words, enclosed, identifier_words, listed, more, name_words, spaced};
 
 use itoa::Buffer;
+use sql_phrases::tier_base::Name;
 use std::alloc::AllocError;
-use tier_base::Name;
 
 /// Puts a space and the word, or words that have their spaces. The error is want of memory; what was put then isn't
 /// told.

@@ -1,5 +1,5 @@
 -- What a commit enters, group by group.
-use Rattle.std.proofs.Common.{◌≡◌, ℕ, ◌<◌, ◌≤◌, cond, Some, List, [], length, slice_get, arith}
+use Rattle.std.proofs.Common.{◌≡◌, ℕ, ◌≤◌, cond, Some, List, [], length, slice_get, arith}
 use Rattle.row_types.specs.declared.value.Value.{Value}
 use Rattle.table_state.specs.declared.operation.Op.{Op}
 use Rattle.group_store.specs.Stores.{Kept}

@@ -1,5 +1,5 @@
 -- Root keys of operations that are laid one after another.
-use Rattle.std.proofs.Common.{◌≡◌, ℕ, zero, suc, ◌+◌, ◌<◌, ◌≤◌, Option, Some, None, List, [], ◌∷◌, ◌++◌, drop, get_or, length, take, refl, sym, ap, subst, ◌∙◌, arith, append_assoc}
+use Rattle.std.proofs.Common.{◌≡◌, ℕ, ◌+◌, ◌<◌, ◌≤◌, Option, Some, None, List, [], ◌∷◌, ◌++◌, drop, get_or, length, take, refl, sym, ap, ◌∙◌, append_assoc}
 use Rattle.std.specs.Option.{option_and_then, option_or}
 use Rattle.std.proofs.lemmas.List.{drop_all, drop_more, take_more}
 use Rattle.row_types.specs.declared.value.Value.{Value}
@@ -8,7 +8,7 @@ use Rattle.table_state.specs.declared.operation.Op.{Op}
 use Rattle.table_state.specs.declared.refusal.ApplyError.{ApplyError}
 use Rattle.table_state.specs.Independence.{IsWhole}
 use Rattle.table_state.specs.Keyed.{IsKeyed}
-use Rattle.table_state.specs.Operations.{applied, applied_all}
+use Rattle.table_state.specs.Operations.{applied}
 use Rattle.table_state.specs.Refusals.{broken_by, broken_by_all}
 use Rattle.table_state.specs.Tables.{TableState}
 use Rattle.own_rows.specs.Overlays.{overlaid}

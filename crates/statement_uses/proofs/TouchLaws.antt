@@ -1,17 +1,15 @@
 -- What uses make of the order of last use.
-use Rattle.std.proofs.Common.{◌≡◌, ℕ, zero, suc, ◌+◌, ◌<◌, ◌≤◌, Bool, true, false, cond, not, ◌||◌, Option, Some, None, List, [], ◌∷◌, ◌++◌, drop, filter, get_or, length, map, set, slice_get, unwrap_or, refl, sym, ap, subst, ◌∙◌, arith}
-use Rattle.std.specs.FinMap.{contains_key}
+use Rattle.std.proofs.Common.{◌≡◌, ℕ, zero, suc, ◌+◌, ◌<◌, ◌≤◌, Bool, true, false, cond, not, ◌||◌, Some, List, [], ◌∷◌, ◌++◌, drop, filter, get_or, length, set, slice_get, refl, sym, ap, subst, ◌∙◌, arith}
 use Rattle.row_types.specs.declared.value.Value.{Value}
 use Rattle.indexed_rows.specs.Rows.{is_same}
 use Rattle.indexed_rows.proofs.EntryLaws.{same_itself, same_values}
-use Rattle.instances.specs.Views.{kept_at}
 use Rattle.recency.specs.Rings.{keys_without, touched}
 use Rattle.cache_store.specs.Shown.{is_among}
 use Rattle.group_store.specs.Stores.{Kept, SameButSpare, touched_store}
 use Rattle.cache_tier.specs.Groups.{is_key, used, without_keys}
 use Rattle.cache_tier.specs.Standing.{AreDistinct}
 use Rattle.cache_tier.proofs.ApartLaws.{use_one}
-use Rattle.statement_uses.specs.Touching.{HaveRows, HaveRowsIn, newest_by, newest_stores, roomless, roomless_all, touched_by, touched_stores}
+use Rattle.statement_uses.specs.Touching.{newest_by, newest_stores, roomless, roomless_all, touched_by, touched_stores}
 use Rattle.statement_uses.specs.Uses.{keys_at, used_all}
 
 abbrev Row : Type 0

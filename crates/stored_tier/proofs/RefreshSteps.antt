@@ -1,5 +1,5 @@
 -- Steps of the loops of a refresh.
-use Rattle.std.proofs.Common.{◌≡◌, ◌≤◌, ◌<◌, ◌⊎◌, inl, inr, ℕ, zero, suc, ◌+◌, Bool, true, false, not, cond, ◌&&◌, ◌||◌, nat_eq, nat_lt, ltb, Option, Some, None, Result, Ok, Err, IfOk, is_some, List, [], ◌∷◌, ◌++◌, length, map, filter, find, get_or, set, slice_get, slice_set, take, drop, unwrap_or, count_by, refl, sym, ap, subst, ◌∙◌, append_assoc, arith}
+use Rattle.std.proofs.Common.{◌≡◌, ◌≤◌, ◌<◌, ◌⊎◌, inl, inr, ℕ, zero, suc, ◌+◌, Bool, true, false, not, cond, ◌&&◌, ◌||◌, nat_eq, nat_lt, ltb, Option, Some, None, Result, Ok, Err, IfOk, is_some, List, [], ◌∷◌, ◌++◌, length, map, find, get_or, set, slice_get, take, drop, unwrap_or, count_by, refl, sym, ap, subst, ◌∙◌, append_assoc, arith}
 use Rattle.std.proofs.lemmas.Bool.{eq-eqb, eqb-true}
 use Rattle.std.proofs.lemmas.List.{append-nil, length-map, map-append}
 use Rattle.std.proofs.lemmas.List.Sums.{count_by_more_no, count_by_more_yes}

@@ -7,7 +7,7 @@ use Rattle.row_types.specs.declared.rule.Rule.{Rule}
 use Rattle.row_types.specs.declared.rule.Refused.{Refused}
 use Rattle.row_types.specs.declared.rule.Refused.TheVariants as refused
 use Rattle.table_defs.specs.Declarations.{IsRefusedBy, broken, type_fault, type_of}
-use Rattle.tier_base.specs.declared.code.Code.TheVariants.{OutOfRange}
+use Rattle.row_types.specs.tier_base.specs.declared.code.Code.TheVariants.{OutOfRange}
 use Rattle.row_types.specs.declared.rule.Detail.TheVariants.{NoType}
 use Rattle.std.specs.Prelude.{if◌then◌else◌}
 

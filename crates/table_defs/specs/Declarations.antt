@@ -5,11 +5,11 @@ use Rattle.std.specs.Prelude.{◌≡◌, ℕ, List, [], ◌∷◌, ◌++◌, ◌
 use Rattle.std.specs.Char.{is_ascii_digit}
 use Rattle.std.specs.List.{list_all}
 use Rattle.std.specs.Option.{option_and_then, option_map, option_or}
-use Rattle.tier_base.specs.Limits.{greatest}
-use Rattle.tier_base.specs.declared.code.Code.{Code}
-use Rattle.tier_base.specs.declared.code.Code.TheVariants.{UnknownTable, UnknownColumn, NameInUse, TypeMismatch, OutOfRange}
-use Rattle.tier_base.specs.declared.limit.Limit.{Limit}
-use Rattle.tier_base.specs.declared.limit.Limit.TheVariants.{Tables, Columns, KeyColumns}
+use Rattle.row_types.specs.tier_base.specs.Limits.{greatest}
+use Rattle.row_types.specs.tier_base.specs.declared.code.Code.{Code}
+use Rattle.row_types.specs.tier_base.specs.declared.code.Code.TheVariants.{UnknownTable, UnknownColumn, NameInUse, TypeMismatch, OutOfRange}
+use Rattle.row_types.specs.tier_base.specs.declared.limit.Limit.{Limit}
+use Rattle.row_types.specs.tier_base.specs.declared.limit.Limit.TheVariants.{Tables, Columns, KeyColumns}
 use Rattle.row_types.specs.declared.column.Column.{Column}
 use Rattle.row_types.specs.declared.column.Ty.{Ty}
 use Rattle.row_types.specs.declared.column.Ty.TheVariants as ty

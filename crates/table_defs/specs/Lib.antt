@@ -1,2 +1,4 @@
 pub mod Declarations
 pub mod Names
+pub use Rattle.row_types.specs.tier_base
+pub use Rattle.row_types

@@ -5,7 +5,7 @@ use Rattle.std.specs.Cmp.Lexicographic.{pointwise}
 use Rattle.std.specs.List.{list_any}
 use Rattle.std.specs.Option.{option_and_then}
 use Rattle.row_types.specs.declared.declaration.ColumnDeclaration.{ColumnDeclaration}
-use Rattle.tier_base.specs.declared.number.TableId.{TableId}
+use Rattle.row_types.specs.tier_base.specs.declared.number.TableId.{TableId}
 use Rattle.table_defs.specs.declared.definition.TableDef.{TableDef}
 
 -- the same name

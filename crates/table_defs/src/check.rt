@@ -1,7 +1,7 @@
 //! Declared tables checked against a schema, and their limits.
 
 ghost use Rattle.std.specs.Prelude.{◌≡◌, [], ◌∷◌, None, IfErr, IfOk, OnOk, length, map, option_copied, position};
-ghost use Rattle.tier_base.specs.declared.code.Code.TheVariants as code;
+ghost use Rattle.row_types.specs.tier_base.specs.declared.code.Code.TheVariants as code;
 ghost use Rattle.table_defs.specs.Declarations.{IsRefusedBy, Tells, broken_at, fault_of, foreign_places, key_fault, key_places, limit_of, places_of, refuses_null, resolved, resolved_column, resolved_reference, type_fault};
 ghost use Rattle.std.specs.Option.{option_map};
 
@@ -12,9 +12,9 @@ use crate::faults::{
 };
 use crate::names::{find_table, is_listed, place_of_column};
 use crate::types::type_of;
+use row_types::tier_base::{Code, Limit, Name, Seq, TableId};
 use row_types::{Column, ColumnDeclaration, Detail, Refused, Rule, TableDeclaration};
 use std::alloc::{AllocError, Global};
-use tier_base::{Code, Limit, Name, Seq, TableId};
 
 impl TableDef {
     /// The definition that a declaration makes behind this schema.

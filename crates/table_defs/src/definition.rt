@@ -3,8 +3,8 @@
 ghost use Rattle.std.specs.Prelude.{◌≡◌, ◌↔◌, IfOk, IsTrue};
 
 use row_types::Column;
+use row_types::tier_base::{Name, Seq, TableId};
 use std::alloc::{AllocError, Global};
-use tier_base::{Name, Seq, TableId};
 
 /// The definitions of the backing tables, in the order in which they were made. It only grows.
 pub type BackingSchema = Seq<TableDef>;

@@ -7,8 +7,8 @@ ghost use Rattle.table_defs.specs.Declarations.{first_repeated, first_wrong, for
 use crate::definition::{BackingSchema, TableDef};
 use crate::names::{find_table, is_listed, is_same_name, place_of_column};
 use crate::types::has_type;
+use row_types::tier_base::Name;
 use row_types::{Column, ColumnDeclaration, ForeignKeyDeclaration, TableDeclaration};
-use tier_base::Name;
 
 /// The names of the PRIMARY KEY clause, none where there is no clause.
 pub(crate) fn key_names(declaration: &TableDeclaration) -> &[Name]

@@ -5,7 +5,7 @@ ghost use Rattle.table_defs.specs.Names.{is_listed, place_of_column, place_of_ta
 
 use crate::definition::{BackingSchema, TableDef};
 use row_types::ColumnDeclaration;
-use tier_base::{Name, TableId};
+use row_types::tier_base::{Name, TableId};
 
 /// The table of this name, where the schema has one.
 pub fn find_table(schema: &BackingSchema, name: &Name) -> Option<TableId>

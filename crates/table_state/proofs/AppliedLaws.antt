@@ -6,10 +6,10 @@ use Rattle.std.specs.Ordering.{is_eq}
 use Rattle.std.specs.declared.cmp.Ordering.{Ordering}
 use Rattle.std.specs.declared.cmp.Ordering.TheVariants.{Less, Equal, Greater}
 use Rattle.std.specs.FinMap.{contains_key, empty, get, insert, remove}
-use Rattle.row_types.specs.declared.value.Value.{Value}
-use Rattle.row_types.specs.Order.{key_order}
-use Rattle.row_types.proofs.OrderLaws.{key_exact}
-use Rattle.tier_base.specs.declared.number.TableId.{TableId}
+use Rattle.table_defs.specs.row_types.specs.declared.value.Value.{Value}
+use Rattle.table_defs.specs.row_types.specs.Order.{key_order}
+use Rattle.table_defs.specs.row_types.proofs.OrderLaws.{key_exact}
+use Rattle.table_defs.specs.tier_base.specs.declared.number.TableId.{TableId}
 use Rattle.table_defs.specs.declared.definition.TableDef.{TableDef}
 use Rattle.indexed_rows.specs.Rows.{Table, is_same, key_of}
 use Rattle.table_state.specs.declared.operation.Op.TheVariants.{Delete, Insert, Update}

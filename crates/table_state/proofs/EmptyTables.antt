@@ -2,8 +2,8 @@
 use Rattle.std.proofs.Common.{◌≡◌, ◌≤◌, ℕ, Option, None, List, [], ◌∷◌, length, slice_get, unwrap_or, refl, sym, ap, ◌∙◌, zero, suc, arith}
 use Rattle.std.proofs.lemmas.List.{length-map, nil_from_length}
 use Rattle.std.specs.FinMap as fm
-use Rattle.row_types.specs.declared.value.Value.{Value}
-use Rattle.row_types.specs.Order.{key_order}
+use Rattle.table_defs.specs.row_types.specs.declared.value.Value.{Value}
+use Rattle.table_defs.specs.row_types.specs.Order.{key_order}
 use Rattle.indexed_rows.specs.Rows.{Table}
 
 module _ (found : Option Table) (none : None ≡ found) where

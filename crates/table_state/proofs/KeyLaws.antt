@@ -9,10 +9,10 @@ use Rattle.std.specs.Cmp.{eq_by_cmp_equiv}
 use Rattle.std.proofs.lemmas.Bool.{eq-eqb}
 use Rattle.std.specs.FinMap as fm
 use Rattle.std.specs.FinMap.Entries.{below_all}
-use Rattle.row_types.specs.declared.column.Column.{Column}
-use Rattle.row_types.specs.declared.value.Value.{Value}
-use Rattle.row_types.specs.Order.{key_order}
-use Rattle.row_types.proofs.OrderLaws.{key_total, key_exact}
+use Rattle.table_defs.specs.row_types.specs.declared.column.Column.{Column}
+use Rattle.table_defs.specs.row_types.specs.declared.value.Value.{Value}
+use Rattle.table_defs.specs.row_types.specs.Order.{key_order}
+use Rattle.table_defs.specs.row_types.proofs.OrderLaws.{key_total, key_exact}
 use Rattle.indexed_rows.specs.Rows.{Table, is_same, key_of}
 use Rattle.table_state.specs.Tables.{fits_columns}
 use Rattle.table_state.specs.Keyed.{HasFit, IsUnderKeys, has_key}

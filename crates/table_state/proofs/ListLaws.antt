@@ -2,8 +2,8 @@
 use Rattle.std.proofs.Common.{◌≡◌, ℕ, ◌+◌, ◌≤◌, Bool, false, cond, Some, None, List, [], ◌∷◌, slice_get, unwrap_or, is_some, refl, sym, ap, ◌∙◌}
 use Rattle.std.specs.List.{find}
 use Rattle.std.specs.FinMap.{empty, contains_key, get-empty, len, len-empty}
-use Rattle.row_types.specs.declared.value.Value.{Value}
-use Rattle.row_types.specs.Order.{key_order}
+use Rattle.table_defs.specs.row_types.specs.declared.value.Value.{Value}
+use Rattle.table_defs.specs.row_types.specs.Order.{key_order}
 use Rattle.indexed_rows.specs.Rows.{Table}
 
 -- where no element passes, none is found

@@ -8,14 +8,14 @@ use Rattle.std.specs.Ordering.{is_eq, ordering_then}
 use Rattle.std.specs.FinMap as fm
 use Rattle.std.specs.declared.cmp.Ordering.{Ordering}
 use Rattle.std.specs.declared.cmp.Ordering.TheVariants.{Less, Equal, Greater}
-use Rattle.tier_base.specs.declared.code.Code.{Code}
-use Rattle.tier_base.specs.declared.code.Code.TheVariants.{OutOfRange, NullNotAllowed}
-use Rattle.tier_base.specs.declared.number.TableId.{TableId}
-use Rattle.row_types.specs.declared.column.Column.{Column}
-use Rattle.row_types.specs.declared.value.Value.{Value}
-use Rattle.row_types.specs.declared.value.Value.TheVariants.{Null, Number, Text, Time}
-use Rattle.row_types.specs.Columns.{fit_of, holds}
-use Rattle.row_types.specs.Order.{order_of}
+use Rattle.table_defs.specs.tier_base.specs.declared.code.Code.{Code}
+use Rattle.table_defs.specs.tier_base.specs.declared.code.Code.TheVariants.{OutOfRange, NullNotAllowed}
+use Rattle.table_defs.specs.tier_base.specs.declared.number.TableId.{TableId}
+use Rattle.table_defs.specs.row_types.specs.declared.column.Column.{Column}
+use Rattle.table_defs.specs.row_types.specs.declared.value.Value.{Value}
+use Rattle.table_defs.specs.row_types.specs.declared.value.Value.TheVariants.{Null, Number, Text, Time}
+use Rattle.table_defs.specs.row_types.specs.Columns.{fit_of, holds}
+use Rattle.table_defs.specs.row_types.specs.Order.{order_of}
 use Rattle.table_defs.specs.declared.definition.TableDef.{TableDef}
 use Rattle.table_state.specs.declared.refusal.ApplyError.{ApplyError}
 use Rattle.indexed_rows.specs.Rows.{Table, is_same, key_of, changes}

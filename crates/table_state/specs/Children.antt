@@ -2,8 +2,8 @@
 
 use Rattle.std.specs.Prelude.{ℕ, List, Option, Some, None, Bool, false, drop, slice_get}
 use Rattle.std.specs.FinMap.{values}
-use Rattle.row_types.specs.declared.value.Value.{Value}
-use Rattle.tier_base.specs.declared.number.TableId.{TableId}
+use Rattle.table_defs.specs.row_types.specs.declared.value.Value.{Value}
+use Rattle.table_defs.specs.tier_base.specs.declared.number.TableId.{TableId}
 use Rattle.table_defs.specs.declared.definition.TableDef.{TableDef}
 use Rattle.table_defs.specs.Declarations.{foreign_places}
 use Rattle.indexed_rows.specs.Rows.{first_from, has_key}

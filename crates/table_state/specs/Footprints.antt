@@ -2,8 +2,8 @@
 
 use Rattle.std.specs.Prelude.{List, [], ◌∷◌, Option, Some, None, Bool, ◌&&◌, ◌||◌, nat_eq, slice_get}
 use Rattle.std.specs.List.{flat_map, list_any}
-use Rattle.row_types.specs.declared.value.Value.{Value}
-use Rattle.tier_base.specs.declared.number.TableId.{TableId}
+use Rattle.table_defs.specs.row_types.specs.declared.value.Value.{Value}
+use Rattle.table_defs.specs.tier_base.specs.declared.number.TableId.{TableId}
 use Rattle.table_defs.specs.declared.definition.ForeignKey.{ForeignKey}
 use Rattle.table_defs.specs.declared.definition.TableDef.{TableDef}
 use Rattle.table_state.specs.declared.footprint.Footprint.{Footprint}

@@ -3,8 +3,8 @@
 
 use Rattle.std.specs.Prelude.{◌≡◌, ℕ, List, Some, slice_get, true}
 use Rattle.std.specs.FinMap.{get}
-use Rattle.row_types.specs.declared.column.Column.{Column}
-use Rattle.row_types.specs.declared.value.Value.{Value}
+use Rattle.table_defs.specs.row_types.specs.declared.column.Column.{Column}
+use Rattle.table_defs.specs.row_types.specs.declared.value.Value.{Value}
 use Rattle.table_defs.specs.declared.definition.TableDef.{TableDef}
 use Rattle.indexed_rows.specs.Rows.{Table}
 use Rattle.table_state.specs.Tables.{TableState, fits_columns}

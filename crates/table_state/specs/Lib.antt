@@ -12,3 +12,7 @@ pub mod StateCode
 pub mod Tables
 pub mod ScanChildren
 pub mod Keyed
+pub use Rattle.table_defs.specs.tier_base
+pub use Rattle.table_defs.specs.row_types
+pub use Rattle.table_defs
+pub use Rattle.indexed_rows

@@ -1,6 +1,6 @@
 -- The rows of operations.
 use Rattle.std.specs.Prelude.{List}
-use Rattle.row_types.specs.declared.value.Value.{Value}
+use Rattle.table_defs.specs.row_types.specs.declared.value.Value.{Value}
 use Rattle.table_state.specs.declared.operation.Op.{Op}
 use Rattle.table_state.specs.declared.operation.Op.TheVariants.{Insert, Update, Delete}
 

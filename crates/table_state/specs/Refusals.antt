@@ -4,15 +4,15 @@
 use Rattle.std.specs.Prelude.{◌≡◌, ℕ, List, [], ◌∷◌, Option, Some, None, Bool, false, ◌==◌, length, find, take, Result, Ok, Err, slice_get, if◌then◌else◌}
 use Rattle.std.specs.FinMap.{contains_key, entries, get}
 use Rattle.std.specs.Option.{option_and_then, option_map, option_or}
-use Rattle.tier_base.specs.Codes.{number_of}
-use Rattle.tier_base.specs.declared.code.Code.{Code}
-use Rattle.tier_base.specs.declared.code.Code.TheVariants.{UnknownTable, TypeMismatch, OutOfRange, NullNotAllowed, KeyExists, ParentMissing, ChildExists, KeyColumnSet}
-use Rattle.tier_base.specs.declared.number.TableId.{TableId}
-use Rattle.row_types.specs.declared.column.Column.{Column}
-use Rattle.row_types.specs.declared.rule.Detail.{Detail}
-use Rattle.row_types.specs.declared.rule.Detail.TheVariants as detail
-use Rattle.row_types.specs.declared.value.Value.{Value}
-use Rattle.row_types.specs.Columns.{fit_of}
+use Rattle.table_defs.specs.tier_base.specs.Codes.{number_of}
+use Rattle.table_defs.specs.tier_base.specs.declared.code.Code.{Code}
+use Rattle.table_defs.specs.tier_base.specs.declared.code.Code.TheVariants.{UnknownTable, TypeMismatch, OutOfRange, NullNotAllowed, KeyExists, ParentMissing, ChildExists, KeyColumnSet}
+use Rattle.table_defs.specs.tier_base.specs.declared.number.TableId.{TableId}
+use Rattle.table_defs.specs.row_types.specs.declared.column.Column.{Column}
+use Rattle.table_defs.specs.row_types.specs.declared.rule.Detail.{Detail}
+use Rattle.table_defs.specs.row_types.specs.declared.rule.Detail.TheVariants as detail
+use Rattle.table_defs.specs.row_types.specs.declared.value.Value.{Value}
+use Rattle.table_defs.specs.row_types.specs.Columns.{fit_of}
 use Rattle.table_defs.specs.declared.definition.ForeignKey.{ForeignKey}
 use Rattle.table_defs.specs.declared.definition.TableDef.{TableDef}
 use Rattle.table_state.specs.declared.history.Entry.{Entry}

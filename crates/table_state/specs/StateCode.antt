@@ -3,7 +3,7 @@
 use Rattle.std.specs.Prelude.{List, refl}
 use Rattle.std.specs.Coded.{Coded, code_by, coded×, coded_list}
 use Rattle.std.specs.FinMap as map
-use Rattle.row_types.specs.contracts.value.Value as one
+use Rattle.table_defs.specs.row_types.specs.contracts.value.Value as one
 use Rattle.table_defs.specs.declared.definition.TableDef.{TableDef}
 use Rattle.table_defs.specs.contracts.definition.TableDef as definition
 use Rattle.indexed_rows.specs.Rows.{Table}

@@ -8,9 +8,9 @@ ghost use Rattle.table_state.specs.Tables.{table_at};
 
 use crate::tables::Tables;
 use indexed_rows::Spare;
-use row_types::{Key, Row};
 use std::alloc::{AllocError, Global};
-use tier_base::TableId;
+use table_defs::row_types::{Key, Row};
+use table_defs::tier_base::TableId;
 
 /// How a change of one row is taken back.
 #[derive(Drop)]

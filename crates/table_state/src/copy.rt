@@ -2,7 +2,7 @@
 
 ghost use Rattle.std.specs.Prelude.{◌≡◌, IfOk, length, if◌then◌else◌};
 ghost use Rattle.std.specs.FinMap.{empty};
-ghost use Rattle.tier_base.specs.declared.number.TableId.{TableId};
+ghost use Rattle.table_defs.specs.tier_base.specs.declared.number.TableId.{TableId};
 ghost use Rattle.table_state.specs.Copies.{is_one_of, only_asked};
 ghost use Rattle.table_state.specs.Tables.{table_at};
 
@@ -10,7 +10,7 @@ use crate::tables::Tables;
 use indexed_rows::IndexedRows;
 use std::alloc::{AllocError, Global};
 use table_defs::copied_schema;
-use tier_base::TableId;
+use table_defs::tier_base::TableId;
 
 impl Tables {
     /// A second copy of the tables. It goes through all rows.

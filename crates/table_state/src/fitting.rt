@@ -1,15 +1,15 @@
 //! What rows have to be: fit for their columns, and with the key that they had.
 
 ghost use Rattle.std.specs.Prelude.{◌≡◌, option_copied, IfOk, Some};
-ghost use Rattle.row_types.specs.Columns.{fit_of};
+ghost use Rattle.table_defs.specs.row_types.specs.Columns.{fit_of};
 ghost use Rattle.table_state.specs.Refusals.{Judges, changed_key, column_name, first_refused, is_code, misfit, refused, refused_at};
 
 use crate::refusal::ApplyError;
 use indexed_rows::first_change;
-use row_types::{Column, Detail, Row, Rule, Value, fits};
 use std::alloc::{AllocError, Global};
 use table_defs::TableDef;
-use tier_base::{Code, Name};
+use table_defs::row_types::{Column, Detail, Row, Rule, Value, fits};
+use table_defs::tier_base::{Code, Name};
 
 /// A broken rule.
 pub(crate) fn broken(code: Code, detail: Detail) -> ApplyError

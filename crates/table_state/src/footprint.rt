@@ -7,10 +7,10 @@ ghost use Rattle.table_state.specs.Footprints.{conflict, footprint_of, is_among,
 use crate::lookup::key_of_row;
 use crate::operation::Op;
 use indexed_rows::{is_same_values, key_at};
-use row_types::{Key, Row};
 use std::alloc::{AllocError, Global};
+use table_defs::row_types::{Key, Row};
+use table_defs::tier_base::{Seq, TableId};
 use table_defs::{BackingSchema, TableDef};
-use tier_base::{Seq, TableId};
 
 /// A row of a table, by its key.
 pub struct RowKey {

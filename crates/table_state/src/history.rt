@@ -5,7 +5,7 @@ ghost use Rattle.std.specs.Prelude.{◌≡◌, ◌↔◌, IfOk, IsTrue};
 use crate::operation::{Ops, copied_ops, same_ops};
 use std::alloc::{AllocError, Global};
 use table_defs::TableDef;
-use tier_base::{Seq, Ticket};
+use table_defs::tier_base::{Seq, Ticket};
 
 /// What the backing database went through, from its beginning. It only grows.
 pub type History = Seq<Entry>;

@@ -3,8 +3,8 @@
 ghost use Rattle.std.specs.Prelude.{◌≡◌, ◌<◌, IfOk, IfSome, None, Some, option_copied, slice_get, if◌then◌else◌, find};
 ghost use Rattle.std.specs.Option.{option_and_then};
 ghost use Rattle.std.specs.FinMap as map;
-ghost use Rattle.tier_base.specs.declared.code.Code.TheVariants as code;
-ghost use Rattle.row_types.specs.declared.rule.Detail.TheVariants as detail;
+ghost use Rattle.table_defs.specs.tier_base.specs.declared.code.Code.TheVariants as code;
+ghost use Rattle.table_defs.specs.row_types.specs.declared.rule.Detail.TheVariants as detail;
 ghost use Rattle.table_state.specs.declared.refusal.ApplyError.TheVariants as error;
 ghost use Rattle.indexed_rows.specs.Rows.{key_of};
 ghost use Rattle.table_state.specs.Tables.{is_found, names_parent, table_at};
@@ -15,10 +15,10 @@ use crate::lookup::key_of_row;
 use crate::refusal::ApplyError;
 use crate::tables::Tables;
 use indexed_rows::{IndexedRows, Rows, is_same_row, key_at};
-use row_types::{Detail, Key, Row};
 use std::alloc::{AllocError, Global};
+use table_defs::row_types::{Detail, Key, Row};
+use table_defs::tier_base::{Code, TableId};
 use table_defs::{ForeignKey, TableDef};
-use tier_base::{Code, TableId};
 
 impl Tables {
     /// The key of a row that can be inserted.

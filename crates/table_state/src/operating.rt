@@ -13,9 +13,9 @@ use crate::operation::Op;
 use crate::refusal::ApplyError;
 use crate::tables::Tables;
 use indexed_rows::Spare;
-use row_types::{Detail, Key, Row};
 use std::alloc::Global;
-use tier_base::{Code, TableId};
+use table_defs::row_types::{Detail, Key, Row};
+use table_defs::tier_base::{Code, TableId};
 
 impl Tables {
     /// Applies an operation.

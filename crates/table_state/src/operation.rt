@@ -4,9 +4,9 @@ ghost use Rattle.std.specs.Prelude.{◌≡◌, ◌↔◌, IfOk, IsTrue};
 ghost use Rattle.table_state.specs.OpRows.{row_of};
 ghost use Rattle.table_state.specs.Operations.{table_of};
 
-use row_types::Row;
 use std::alloc::{AllocError, Global};
-use tier_base::{Seq, TableId};
+use table_defs::row_types::Row;
+use table_defs::tier_base::{Seq, TableId};
 
 /// What a transaction does, in the order in which its statements did it.
 pub type Ops = Seq<Op>;

@@ -1,8 +1,8 @@
 //! Why an operation wasn't applied.
 
-use row_types::{Key, Row, Rule};
 use std::alloc::AllocError;
-use tier_base::TableId;
+use table_defs::row_types::{Key, Row, Rule};
+use table_defs::tier_base::TableId;
 
 /// Why an operation wasn't applied.
 #[derive(Drop)]

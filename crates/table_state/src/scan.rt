@@ -7,9 +7,9 @@ ghost use Rattle.table_state.specs.ScanChildren.{child_from};
 
 use crate::Tables;
 use indexed_rows::Rows;
-use row_types::{Key, Row};
 use table_defs::BackingSchema;
-use tier_base::TableId;
+use table_defs::row_types::{Key, Row};
+use table_defs::tier_base::TableId;
 
 /// What lends the rows of tables. Clauses see a table state. Nothing is copied, and no call takes memory.
 pub trait Scan {

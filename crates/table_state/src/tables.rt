@@ -7,11 +7,11 @@ ghost use Rattle.table_defs.specs.Declarations.{foreign_places};
 ghost use Rattle.table_state.specs.Histories.{no_tables};
 
 use indexed_rows::{IndexedRows, Rows};
-use row_types::Key;
 use std::alloc::{AllocError, Global};
 use std::marker::Model;
+use table_defs::row_types::Key;
+use table_defs::tier_base::{Seq, TableId};
 use table_defs::{BackingSchema, ForeignKey, TableDef, copied_places};
-use tier_base::{Seq, TableId};
 
 /// The tables with their rows. Clauses see a table state.
 pub struct Tables {

@@ -1,24 +1,23 @@
 -- Entries that are made ready, and the worlds whose journal they are for.
-use Rattle.std.proofs.Common.{◌≡◌, ℕ, ◌+◌, ◌-◌, ◌≤◌, ◌<◌, ◌^◌, ◌⊎◌, Bool, true, false, ◌&&◌, Option, Some, None, List, [], ◌∷◌, ◌++◌, length, refl, sym, ap, subst, ◌∙◌, inl, inr, arith}
+use Rattle.std.proofs.Common.{◌≡◌, ℕ, Bool, true, false, ◌&&◌, Option, Some, None, List, [], ◌∷◌, refl, sym, ap, ◌∙◌, inl, inr, arith}
 use Rattle.std.specs.Prelude.{Result, Ok, Err}
 use Rattle.std.specs.Result.{IfOk}
 use Rattle.table_defs.specs.declared.definition.TableDef.{TableDef}
-use Rattle.outside.specs.Holding.{Held, Slots}
+use Rattle.outside.specs.Holding.{Held}
 use Rattle.outside.specs.Sites.{SiteState}
 use Rattle.journal_entries.specs.Spelling.{IsEntry}
-use Rattle.commit_journal.specs.Resting.{Spells}
-use Rattle.cache_tier.specs.Journals.{Journal, JournalEntry, is_full}
-use Rattle.cache_tier.specs.JournalSteps.{journal_full, name_size, name_sizes}
+use Rattle.cache_tier.specs.Journals.{JournalEntry, is_full}
+use Rattle.cache_tier.specs.JournalSteps.{journal_full, name_sizes}
 use Rattle.cache_tier.specs.Worlds.{World}
 use Rattle.tier_journal.specs.declared.batch.Batch.{Batch}
 use Rattle.tier_journal.specs.declared.journal.TierJournal.{TierJournal}
-use Rattle.tier_journal.specs.Batches.{Adds, Holds, IsEmpty, batch_size}
-use Rattle.tier_journal.specs.Keeping.{HasRoomFor, HasSame, IsBehind, IsTooMuch, Keeps, standing_in, version_in}
+use Rattle.tier_journal.specs.Batches.{Adds, Holds, IsEmpty}
+use Rattle.tier_journal.specs.Keeping.{HasRoomFor, HasSame, IsBehind, IsTooMuch, standing_in}
 use Rattle.tier_journal.specs.Writing.{written}
 use Rattle.tier_journal.proofs.KeepLaws.{full_past, past_full}
 use Rattle.tier_journal.specs.declared.draft.Draft.{Draft}
 use Rattle.tier_journal.specs.declared.draft.Draft.TheVariants.{Fits, Full, Unkept}
-use Rattle.tier_journal.specs.Drafts.{FillsIn, FitsBehind, HasKept, IsDraftOf, IsPlaced, Overfills, StaysKept, is_full_draft}
+use Rattle.tier_journal.specs.Drafts.{FillsIn, IsDraftOf, IsPlaced, StaysKept, is_full_draft}
 use Rattle.tier_journal.specs.KeptOver.{IsOver, KeepsOver}
 
 -- a batch without entries has none

@@ -1,19 +1,18 @@
 -- What is noted and flushed, in the worlds whose journal is kept over the disk.
-use Rattle.std.proofs.Common.{◌≡◌, ℕ, ◌+◌, ◌≤◌, Bool, true, false, ◌&&◌, cond, Option, Some, None, List, [], ◌∷◌, ◌++◌, refl, sym, ap, subst, ◌∙◌, arith, append-nil}
+use Rattle.std.proofs.Common.{◌≡◌, ℕ, ◌+◌, ◌≤◌, Bool, true, false, Option, Some, None, List, [], ◌∷◌, ◌++◌, refl, sym, ap, subst, ◌∙◌, arith, append-nil}
 use Rattle.std.specs.Bool.{MatchBool}
 use Rattle.std.specs.Option.{IsSome}
 use Rattle.std.specs.List.{AllByRecursion}
 use Rattle.std.proofs.lemmas.Option.{same_Some}
 use Rattle.tier_base.specs.declared.code.Code.TheVariants as code
 use Rattle.table_defs.specs.declared.definition.TableDef.{TableDef}
-use Rattle.table_state.specs.declared.history.Entry.{Entry}
 use Rattle.table_state.specs.declared.operation.Op.{Op}
 use Rattle.outside.specs.Calls.{Certain, Leaves}
 use Rattle.outside.specs.Holding.{Held, Slots}
 use Rattle.outside.specs.Sites.{SiteState}
 use Rattle.cache_tier.specs.declared.reply.Reply.{Reply}
-use Rattle.cache_tier.specs.Journals.{Journal, JournalEntry, Way, flushed_batch, flushed_with, with_noted}
-use Rattle.cache_tier.specs.JournalSteps.{Failing, Flushed, Flushes, FlushesFitting, FlushesKept, Notes, NotesKept, Records, Whole, journal_behind, journal_full, journal_with, name_size}
+use Rattle.cache_tier.specs.Journals.{Journal, JournalEntry, flushed_batch, flushed_with, with_noted}
+use Rattle.cache_tier.specs.JournalSteps.{Failing, Flushes, FlushesFitting, FlushesKept, Notes, NotesKept, Records, Whole, journal_behind, journal_full, journal_with, name_size}
 use Rattle.cache_tier.specs.Rules.{past}
 use Rattle.cache_tier.specs.Worlds.{Passes, Stage, World, faulty, only}
 use Rattle.cache_tier.specs.declared.reply.Last.TheVariants.{No}
@@ -30,7 +29,7 @@ use Rattle.tier_journal.specs.declared.draft.Draft.TheVariants.{Fits, Full, Unke
 use Rattle.tier_journal.specs.Drafts.{FitsBehind, IsDraftOf, is_full_draft}
 use Rattle.tier_journal.proofs.DraftLaws.{full_so}
 use Rattle.tier_journal.proofs.WayLaws.{flushed_tables, kept_unless, leaves_as, on_way, turned_leaves, with_batch}
-use Rattle.tier_journal.specs.KeptOver.{IsOver, IsWrittenOver, KeepsOver, TellsSame, WritesOver, is_broken, over_disk}
+use Rattle.tier_journal.specs.KeptOver.{IsOver, IsWrittenOver, KeepsOver, is_broken, over_disk}
 
 abbrev world_of : World → Journal → ℕ → World
 world_of w j moment = over_disk j w.disk_faults moment w

@@ -16,7 +16,7 @@ use Rattle.tier_journal.specs.declared.journal.TierJournal.{TierJournal}
 use Rattle.tier_journal.specs.Keeping.{KeepsOn, version_in}
 use Rattle.tier_journal.specs.Leaving.{LeftByRotation}
 use Rattle.tier_journal.specs.Writing.{HasTables}
-use Rattle.tier_journal.specs.KeptOver.{IsOver, IsWrittenOver, KeepsOver, TellsSame, is_broken, over_disk}
+use Rattle.tier_journal.specs.KeptOver.{IsOver, IsWrittenOver, KeepsOver, is_broken, over_disk}
 use Rattle.tier_journal.proofs.FlushLaws.{IsRead, is_some, still_over, still_some}
 use Rattle.tier_journal.proofs.WayLaws.{flushed_tables, kept_unless, on_way, turned_leaves}
 

@@ -1,6 +1,6 @@
 -- Entries that are made ready for a journal. (This project's rule.)
 
-use Rattle.std.specs.Prelude.{◌≡◌, List, [], ◌∷◌, Bool, true, false, Option, Some, None}
+use Rattle.std.specs.Prelude.{List, [], ◌∷◌, Bool, true, false, Option, Some, None}
 use Rattle.table_defs.specs.declared.definition.TableDef.{TableDef}
 use Rattle.outside.specs.Holding.{Slots}
 use Rattle.cache_tier.specs.Journals.{Journal, JournalEntry}

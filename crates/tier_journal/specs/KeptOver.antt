@@ -1,6 +1,6 @@
 -- The journal beside a tier, over a disk, as a world has it. (This project's model.)
 
-use Rattle.std.specs.Prelude.{◌≡◌, ℕ, ◌≤◌, ◌+◌, ◌^◌, ◌-◌, min, List, [], ◌∷◌, Bool, true, false, Option, Some, None, Result, Ok, Err}
+use Rattle.std.specs.Prelude.{◌≡◌, ℕ, ◌≤◌, List, [], Bool, true, false, Option, Some, None, Result, Ok, Err}
 use Rattle.table_state.specs.declared.history.Entry.{Entry}
 use Rattle.tier_base.specs.declared.code.Code.TheVariants as code
 use Rattle.outside.specs.Calls.{Certain}

@@ -1,12 +1,13 @@
 -- A tier that is opened over the journal and the backing database that a site holds. (TimesTen Cache User's Guide,
 -- "Recovery"; the journal is this project's.)
 
-use Rattle.std.specs.Prelude.{◌≡◌, ℕ, List, ◌++◌, Some, None, false, length}
+use Rattle.std.specs.Prelude.{◌≡◌, ◌≤◌, ℕ, List, ◌++◌, Some, None, false, length}
 use Rattle.table_defs.specs.declared.definition.TableDef.{TableDef}
 use Rattle.table_state.specs.declared.history.Entry.{Entry}
 use Rattle.tier_base.specs.declared.number.TableId.{TableId}
 use Rattle.table_state.specs.Histories.{has_ticket, state_of}
 use Rattle.table_state.specs.Tables.{TableState}
+use Rattle.outside.specs.Calls.{Certain}
 use Rattle.outside.specs.Holding.{Held, Slots}
 use Rattle.outside.specs.Others.{AreOthers}
 use Rattle.outside.specs.Sites.{SiteState}
@@ -51,7 +52,8 @@ world_of tier history journal site =
     }
 
 -- The world in which the tier begins: transactions of others have come to the history that was held; the journal has
--- the entries that the slots say, and a way of it begins; and the tier is what the entries leave.
+-- the entries that the slots say, and a way of it has begun, at a moment since the opening began; and the tier is what
+-- the entries leave.
 pub record BeginsIn (settings : Settings) (moment : ℕ) (o : Held) (k : TierJournal) (w : World) : Type 0 where
   pub others : List Entry
   pub came : AreOthers w.shared o.history others
@@ -60,10 +62,41 @@ pub record BeginsIn (settings : Settings) (moment : ℕ) (o : Held) (k : TierJou
   pub known : (s : TableState) → state_of w.history ≡ Some s → s.schema ≡ schema
   pub entries : List JournalEntry
   pub say : Say schema o.slots entries
-  pub journal : w.journal ≡ with_way w.moment (length w.history) (opened_journal k entries)
+  pub since : ℕ
+  pub from : ℕ
+  pub least : length o.history ≤ from
+  pub most : from ≤ length w.history
+  pub journal : w.journal ≡ with_way since from (opened_journal k entries)
   pub catalog : Tier
   pub recalls : RecallsAll entries (opened settings moment schema) catalog
   pub tier : w.tier ≡ begun_tier schema entries w.history catalog
+
+-- Where the way of an opened journal begins: where the opening does, as long as a crash then leaves just what the site
+-- tells; or where the journal was found.
+pub data Onset : Type 0 where
+  AtOpening : Onset
+  AtJournal : Onset
+
+-- a crash where the opening begins leaves just what the site tells, if the way begins there
+abbrev pub IsSure : Onset → (Held → Type 0) → Held → Type 0
+IsSure AtOpening certain o = certain o
+IsSure AtJournal certain o = Unit {0}
+
+-- the moment at which the way begins, of those of the opening and of the journal
+abbrev pub onset_moment : Onset → ℕ → ℕ → ℕ
+onset_moment AtOpening opening journal = opening
+onset_moment AtJournal opening journal = journal
+
+-- and the history then
+abbrev pub onset_history : Onset → List Entry → List Entry → List Entry
+onset_history AtOpening opening journal = opening
+onset_history AtJournal opening journal = journal
+
+-- The way of the journal of this world begins there, of an opening that began at this moment.
+pub record StartsAt (onset : Onset) (began : ℕ) {settings : Settings} {moment : ℕ} {o : Held} {k : TierJournal}
+    {w : World} (b : BeginsIn settings moment o k w) : Type 0 where
+  pub since : b.since ≡ onset_moment onset began w.moment
+  pub from : b.from ≡ length (onset_history onset o.history w.history)
 
 -- The tier was opened again: it stands for this world, at the site, and the journal is kept over the disk.
 pub record IsOpenedIn {D : Type 0} (state : D → SiteState) (possible : D → ℕ → Held → Type 0) (begun : World)
@@ -74,20 +107,24 @@ pub record IsOpenedIn {D : Type 0} (state : D → SiteState) (possible : D → �
   pub keeps : IsOver state possible d k world
   pub reopens : Reopens begun world None
 
--- So it is where the entries and the history belong together, and others change no table of a writethrough group.
-pub record IsOpened {D : Type 0} (state : D → SiteState) (possible : D → ℕ → Held → Type 0) (settings : Settings)
-    (moment : ℕ) (shared : List TableId) (o : Held) (t : Stored) (k : TierJournal) (d : D) : Type 0 where
+-- So it is where the entries and the history belong together, and others change no table of a writethrough group. The
+-- way of the journal begins as is asked, of an opening that began over a site in this state.
+pub record IsOpened {D : Type 0} (state : D → SiteState) (possible : D → ℕ → Held → Type 0) (onset : Onset)
+    (settings : Settings) (moment : ℕ) (before : SiteState) (o : Held) (t : Stored) (k : TierJournal) (d : D)
+    : Type 0 where
   pub begun : World
-  pub shares : begun.shared ≡ shared
+  pub shares : begun.shared ≡ before.shared
   pub begins : BeginsIn settings moment o k begun
+  pub starts : StartsAt onset before.moment begins
   pub opened : AreMatched begins.entries begun.history → IsUnshared begun → IsOpenedIn state possible begun t k d
 
 -- the same for each settings with this pace, where the site tells what it holds
 abbrev pub Opens : {D : Type 0} → (D → SiteState) → (D → ℕ → Held → Type 0) → ℕ → Pace → D → D → Stored → TierJournal
     → Type 0
 Opens state possible moment pace d d' t k =
-    (o : Held) (settings : Settings) → (state d).held ≡ Some o → HaveBytes o.slots
-    → pace_of settings ≡ pace → IsOpened state possible settings moment (state d).shared o t k d'
+    (onset : Onset) (o : Held) (settings : Settings) → (state d).held ≡ Some o → HaveBytes o.slots
+    → IsSure onset (Certain state possible d) o → pace_of settings ≡ pace
+    → IsOpened state possible onset settings moment (state d) o t k d'
 
 -- Journal and history belong together: whatever others do in the opening, the entries that the slots say match the
 -- history, and others change no table of a writethrough group that they leave.

@@ -1,12 +1,15 @@
 //! The opening of a tier.
 
-ghost use Rattle.std.specs.Prelude.{◌≡◌, IfOk, Some};
+ghost use Rattle.std.specs.Prelude.{◌≡◌, IfErr, IfOk, Some};
+ghost use Rattle.outside.specs.Calls.{Certain, Leaves};
 ghost use Rattle.outside.specs.Holding.{Held};
 ghost use Rattle.commit_journal.specs.Layout.{HaveBytes};
+ghost use Rattle.commit_journal.specs.Opening.{Keeps};
 ghost use Rattle.tier_journal.specs.declared.opening.Found.TheVariants.{Whole};
 ghost use Rattle.tier_journal.specs.Keeping.{version_in};
 ghost use Rattle.tier_journal.specs.Opening.{Finds};
 ghost use Rattle.stored_tier.specs.Stored.{IsSound};
+ghost use Rattle.tier_opening.specs.Leaving.{FailsLeaving};
 ghost use Rattle.tier_opening.specs.Opening.{Opens};
 ghost use Rattle.tier_opening.specs.Telling.{FindHasCause, IsNamed, IsTold, OpenIsCaused};
 
@@ -86,7 +89,8 @@ impl Drop for OpenError {
 /// `Disk` and `Bank` only where that one's count of faults rose in this call; `Damaged` with the first place that
 /// doesn't read or fit, and as yet with byte 1 of a slot of version 1; `Differs` only where a backing row wasn't as a
 /// commit tells, as that was tried; `Memory` for want of memory, that for the name of a table or a key that differs
-/// included. What was applied at the bank stands there behind each of them, and the journal says what it said.
+/// included. What was applied at the bank stands there behind each of them, and the journal says what it said. So it
+/// does behind a crash at each moment of the opening, as long as a crash where it began left just what the site told.
 /// (TimesTen Cache User's Guide, "Recovery"; the journal is this project's.)
 pub fn open_tier<P: Site>(
     alloc: Global,
@@ -97,6 +101,7 @@ pub fn open_tier<P: Site>(
     ensures opens { IfOk result (λ made. Opens P.Disk.state P.Disk.possible start.0 pace
         site.old site.new made.tier made.journal) }
     ensures sound { IfOk result (λ made. IsSound made.tier) }
+    ensures fails { IfErr result (λ error. FailsLeaving P.Disk.state P.Disk.possible start.0 pace site.old site.new) }
     ensures cause { OpenIsCaused start.0 pace (P.Disk.state site.old) (P.Disk.state site.new) result }
 {
     recalled_law();
@@ -138,6 +143,8 @@ fn found_journal<P: Site>(
     ensures found { IfOk result (λ parts. (o : Held) → (P.Disk.state site.old).held ≡ Some o → HaveBytes o.slots
         → Finds P.Disk.state P.Disk.possible site.new schema.now o (Whole parts.0 parts.1)) }
     ensures version { IfOk result (λ parts. version_in parts.0 ≡ 2) }
+    ensures crash { (o : Held) → Certain P.Disk.state P.Disk.possible site.old o → HaveBytes o.slots
+        → Leaves P.Disk.state P.Disk.possible site.old site.new (Keeps o) }
     ensures cause { FindHasCause schema.now (P.Disk.state site.old) (P.Disk.state site.new) result }
 {
     if schema.len() >= 1 << 32 {

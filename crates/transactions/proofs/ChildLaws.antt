@@ -3,22 +3,22 @@ use Rattle.std.proofs.Common.{◌≡◌, ℕ, zero, suc, ◌+◌, ◌≤◌, Boo
 use Rattle.std.specs.Option.{option_map, option_or}
 use Rattle.std.specs.FinMap as fm
 use Rattle.std.proofs.lemmas.List.{drop_all}
-use Rattle.row_types.specs.declared.rule.Detail.{Detail}
-use Rattle.row_types.specs.declared.rule.Detail.TheVariants as detail
-use Rattle.row_types.specs.declared.value.Value.{Value}
-use Rattle.tier_base.specs.declared.number.TableId.{TableId}
-use Rattle.table_defs.specs.declared.definition.ForeignKey.{ForeignKey}
-use Rattle.table_defs.specs.declared.definition.TableDef.{TableDef}
-use Rattle.table_defs.specs.Declarations.{foreign_places}
-use Rattle.table_state.specs.Independence.{IsWhole, refers_to as refers}
-use Rattle.table_state.specs.Refusals.{child_of, first_child}
-use Rattle.indexed_rows.specs.Rows.{Table, is_same, key_of}
-use Rattle.table_state.specs.Tables.{TableState, names_parent, table_at}
-use Rattle.indexed_rows.proofs.FirstLaws.{drop_at}
-use Rattle.table_state.proofs.ListLaws.{find_none}
-use Rattle.table_state.specs.ScanChildren.{child_from, first_from, refers_to}
-use Rattle.table_state.specs.Keyed.{IsUnderKeys, has_key}
-use Rattle.table_state.proofs.KeyLaws.{entries_under}
+use Rattle.evaluator.specs.row_types.specs.declared.rule.Detail.{Detail}
+use Rattle.evaluator.specs.row_types.specs.declared.rule.Detail.TheVariants as detail
+use Rattle.evaluator.specs.row_types.specs.declared.value.Value.{Value}
+use Rattle.evaluator.specs.tier_base.specs.declared.number.TableId.{TableId}
+use Rattle.evaluator.specs.table_defs.specs.declared.definition.ForeignKey.{ForeignKey}
+use Rattle.evaluator.specs.table_defs.specs.declared.definition.TableDef.{TableDef}
+use Rattle.evaluator.specs.table_defs.specs.Declarations.{foreign_places}
+use Rattle.evaluator.specs.table_state.specs.Independence.{IsWhole, refers_to as refers}
+use Rattle.evaluator.specs.table_state.specs.Refusals.{child_of, first_child}
+use Rattle.evaluator.specs.indexed_rows.specs.Rows.{Table, is_same, key_of}
+use Rattle.evaluator.specs.table_state.specs.Tables.{TableState, names_parent, table_at}
+use Rattle.evaluator.specs.indexed_rows.proofs.FirstLaws.{drop_at}
+use Rattle.evaluator.specs.table_state.proofs.ListLaws.{find_none}
+use Rattle.evaluator.specs.table_state.specs.ScanChildren.{child_from, first_from, refers_to}
+use Rattle.evaluator.specs.table_state.specs.Keyed.{IsUnderKeys, has_key}
+use Rattle.evaluator.specs.table_state.proofs.KeyLaws.{entries_under}
 
 abbrev Row : Type 0
 Row = List Value

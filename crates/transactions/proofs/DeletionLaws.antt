@@ -4,21 +4,21 @@ use Rattle.std.specs.List.{flat_map}
 use Rattle.std.specs.Option.{option_and_then, option_map, option_to_list}
 use Rattle.std.specs.FinMap as fm
 use Rattle.std.proofs.lemmas.Bool.{eqb-true}
-use Rattle.row_types.specs.declared.rule.Rule.{Rule}
-use Rattle.row_types.specs.Order.{key_order}
-use Rattle.tier_base.specs.declared.number.TableId.{TableId}
-use Rattle.table_defs.specs.declared.definition.ForeignKey.{ForeignKey}
-use Rattle.table_defs.specs.declared.definition.TableDef.{TableDef}
-use Rattle.table_state.specs.declared.operation.Op.{Op}
-use Rattle.table_state.specs.declared.operation.Op.TheVariants.{Delete}
-use Rattle.table_defs.specs.Declarations.{foreign_places}
-use Rattle.indexed_rows.specs.Rows.{Table, key_of}
-use Rattle.table_state.specs.Tables.{TableState, table_at}
-use Rattle.indexed_rows.proofs.EntryLaws.{same_values}
-use Rattle.table_state.specs.ScanChildren.{refers_to}
-use Rattle.table_state.specs.Keyed.{IsKeyed, IsUnderKeys, has_key}
-use Rattle.table_state.proofs.KeyLaws.{rows_apart, rows_there}
-use Rattle.table_state.proofs.PairLaws.{Every, Pairs, every_append, every_as, every_filter, pairs_filter}
+use Rattle.evaluator.specs.row_types.specs.declared.rule.Rule.{Rule}
+use Rattle.evaluator.specs.row_types.specs.Order.{key_order}
+use Rattle.evaluator.specs.tier_base.specs.declared.number.TableId.{TableId}
+use Rattle.evaluator.specs.table_defs.specs.declared.definition.ForeignKey.{ForeignKey}
+use Rattle.evaluator.specs.table_defs.specs.declared.definition.TableDef.{TableDef}
+use Rattle.evaluator.specs.table_state.specs.declared.operation.Op.{Op}
+use Rattle.evaluator.specs.table_state.specs.declared.operation.Op.TheVariants.{Delete}
+use Rattle.evaluator.specs.table_defs.specs.Declarations.{foreign_places}
+use Rattle.evaluator.specs.indexed_rows.specs.Rows.{Table, key_of}
+use Rattle.evaluator.specs.table_state.specs.Tables.{TableState, table_at}
+use Rattle.evaluator.specs.indexed_rows.proofs.EntryLaws.{same_values}
+use Rattle.evaluator.specs.table_state.specs.ScanChildren.{refers_to}
+use Rattle.evaluator.specs.table_state.specs.Keyed.{IsKeyed, IsUnderKeys, has_key}
+use Rattle.evaluator.specs.table_state.proofs.KeyLaws.{rows_apart, rows_there}
+use Rattle.evaluator.specs.table_state.proofs.PairLaws.{Every, Pairs, every_append, every_as, every_filter, pairs_filter}
 use Rattle.evaluator.specs.Cascades.{cascades_from, child_at, children_from, deleted, key_in, referring}
 use Rattle.evaluator.specs.Rules.{added, each}
 use Rattle.evaluator.proofs.WriteLaws.{keyed_at}

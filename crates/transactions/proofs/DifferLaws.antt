@@ -1,25 +1,25 @@
 -- Laws of the operations of writes: none of them finds another row than it names.
 use Rattle.std.proofs.Common.{◌≡◌, ℕ, ◌-◌, Bool, true, false, cond, nat_lt, Option, Some, None, Result, Ok, Err, List, [], ◌∷◌, length, slice_get, refl, sym, ap, subst, ◌∙◌}
 use Rattle.std.specs.FinMap as fm
-use Rattle.row_types.specs.declared.rule.Rule.{Rule}
-use Rattle.row_types.specs.declared.truth.Truth.{Truth}
-use Rattle.row_types.specs.declared.truth.Truth.TheVariants.{True, False, Unknown}
-use Rattle.tier_base.specs.declared.limit.Limit.TheVariants.{Operations, Rows}
-use Rattle.tier_base.specs.declared.number.TableId.{TableId}
-use Rattle.table_defs.specs.declared.definition.TableDef.{TableDef}
-use Rattle.table_state.specs.declared.operation.Op.{Op}
-use Rattle.table_state.specs.declared.operation.Op.TheVariants as op
-use Rattle.table_state.specs.declared.refusal.ApplyError.{ApplyError}
-use Rattle.table_state.specs.declared.refusal.ApplyError.TheVariants as error
-use Rattle.table_state.specs.Refusals.{broken_by_all}
-use Rattle.indexed_rows.specs.Rows.{key_of}
-use Rattle.table_state.specs.Tables.{TableState, table_at}
-use Rattle.table_state.specs.Keyed.{IsKeyed}
-use Rattle.table_state.proofs.KeyLaws.{rows_apart, rows_there}
-use Rattle.table_state.proofs.KeyedLaws.{ops_keyed}
-use Rattle.table_state.proofs.PairLaws.{Every, Pairs, every_as}
-use Rattle.expressions.specs.declared.condition.Cond.{Cond}
-use Rattle.expressions.specs.declared.expression.Expr.{Expr}
+use Rattle.evaluator.specs.row_types.specs.declared.rule.Rule.{Rule}
+use Rattle.evaluator.specs.row_types.specs.declared.truth.Truth.{Truth}
+use Rattle.evaluator.specs.row_types.specs.declared.truth.Truth.TheVariants.{True, False, Unknown}
+use Rattle.evaluator.specs.tier_base.specs.declared.limit.Limit.TheVariants.{Operations, Rows}
+use Rattle.evaluator.specs.tier_base.specs.declared.number.TableId.{TableId}
+use Rattle.evaluator.specs.table_defs.specs.declared.definition.TableDef.{TableDef}
+use Rattle.evaluator.specs.table_state.specs.declared.operation.Op.{Op}
+use Rattle.evaluator.specs.table_state.specs.declared.operation.Op.TheVariants as op
+use Rattle.evaluator.specs.table_state.specs.declared.refusal.ApplyError.{ApplyError}
+use Rattle.evaluator.specs.table_state.specs.declared.refusal.ApplyError.TheVariants as error
+use Rattle.evaluator.specs.table_state.specs.Refusals.{broken_by_all}
+use Rattle.evaluator.specs.indexed_rows.specs.Rows.{key_of}
+use Rattle.evaluator.specs.table_state.specs.Tables.{TableState, table_at}
+use Rattle.evaluator.specs.table_state.specs.Keyed.{IsKeyed}
+use Rattle.evaluator.specs.table_state.proofs.KeyLaws.{rows_apart, rows_there}
+use Rattle.evaluator.specs.table_state.proofs.KeyedLaws.{ops_keyed}
+use Rattle.evaluator.specs.table_state.proofs.PairLaws.{Every, Pairs, every_as}
+use Rattle.evaluator.specs.expressions.specs.declared.condition.Cond.{Cond}
+use Rattle.evaluator.specs.expressions.specs.declared.expression.Expr.{Expr}
 use Rattle.evaluator.specs.declared.change.Action.{Action}
 use Rattle.evaluator.specs.declared.change.Action.TheVariants.{Insert, Update, Delete}
 use Rattle.evaluator.specs.declared.change.Change.{Change}

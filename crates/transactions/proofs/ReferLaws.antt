@@ -3,15 +3,15 @@ use Rattle.std.proofs.Common.{◌≡◌, ℕ, zero, suc, ◌<◌, ◌^◌, Bool,
 use Rattle.std.specs.List.{position_or_len}
 use Rattle.std.proofs.lemmas.Bool.{ltb-true}
 use Rattle.std.specs.Option.{option_and_then, option_map, option_or}
-use Rattle.row_types.specs.declared.declaration.ForeignKeyDeclaration.{ForeignKeyDeclaration}
-use Rattle.row_types.specs.declared.declaration.TableDeclaration.{TableDeclaration}
-use Rattle.row_types.specs.declared.rule.Rule.{Rule}
-use Rattle.tier_base.specs.declared.code.Code.TheVariants.{UnknownTable}
-use Rattle.tier_base.specs.declared.number.TableId.{TableId}
-use Rattle.table_defs.specs.declared.definition.ForeignKey.{ForeignKey}
-use Rattle.table_defs.specs.declared.definition.TableDef.{TableDef}
-use Rattle.table_defs.specs.Declarations.{broken_at, fault_of, missing_parent, resolved, resolved_reference}
-use Rattle.table_defs.specs.Names.{place_of_table, same_name, table_id}
+use Rattle.evaluator.specs.row_types.specs.declared.declaration.ForeignKeyDeclaration.{ForeignKeyDeclaration}
+use Rattle.evaluator.specs.row_types.specs.declared.declaration.TableDeclaration.{TableDeclaration}
+use Rattle.evaluator.specs.row_types.specs.declared.rule.Rule.{Rule}
+use Rattle.evaluator.specs.tier_base.specs.declared.code.Code.TheVariants.{UnknownTable}
+use Rattle.evaluator.specs.tier_base.specs.declared.number.TableId.{TableId}
+use Rattle.evaluator.specs.table_defs.specs.declared.definition.ForeignKey.{ForeignKey}
+use Rattle.evaluator.specs.table_defs.specs.declared.definition.TableDef.{TableDef}
+use Rattle.evaluator.specs.table_defs.specs.Declarations.{broken_at, fault_of, missing_parent, resolved, resolved_reference}
+use Rattle.evaluator.specs.table_defs.specs.Names.{place_of_table, same_name, table_id}
 use Rattle.transactions.specs.Differing.{RefersBack}
 
 same_some : {X : Type 0} {x y : X} → Some x ≡ Some y → x ≡ y

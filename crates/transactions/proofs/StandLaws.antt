@@ -7,27 +7,27 @@ use Rattle.std.specs.declared.cmp.Ordering.TheVariants.{Less, Equal, Greater}
 use Rattle.std.specs.Cmp.{eq_by_cmp_equiv}
 use Rattle.std.specs.FinMap as fm
 use Rattle.std.proofs.lemmas.Bool.{eq-eqb, eqb-true}
-use Rattle.row_types.specs.declared.column.Column.{Column}
-use Rattle.row_types.specs.declared.value.Value.{Value}
-use Rattle.row_types.specs.Order.{key_order}
-use Rattle.row_types.proofs.OrderLaws.{key_total, key_exact}
-use Rattle.tier_base.specs.declared.code.Code.{Code}
-use Rattle.tier_base.specs.declared.code.Code.TheVariants.{ChildExists, KeyColumnSet, KeyExists, NullNotAllowed, OutOfRange, ParentMissing, TypeMismatch}
-use Rattle.tier_base.specs.declared.number.TableId.{TableId}
-use Rattle.row_types.specs.declared.rule.Detail.{Detail}
-use Rattle.row_types.specs.declared.rule.Detail.TheVariants as detail
-use Rattle.table_defs.specs.declared.definition.TableDef.{TableDef}
-use Rattle.table_state.specs.declared.operation.Op.{Op}
-use Rattle.table_state.specs.declared.operation.Op.TheVariants.{Insert, Update, Delete}
-use Rattle.table_state.specs.declared.refusal.ApplyError.{ApplyError}
-use Rattle.table_state.specs.declared.refusal.ApplyError.TheVariants as error
-use Rattle.table_state.specs.Operations.{applied, on_table, only_if, with_change, with_row, without_row}
-use Rattle.indexed_rows.specs.Rows.{changes, Table, key_of}
-use Rattle.table_state.specs.Refusals.{broken_by, broken_by_all, changed_key, column_name, delete_fault, differing, first_child, first_refused, has_children, in_table, insert_fault, misfit, missing_parent, parent_row, refused, refused_at, taken_key, update_fault}
-use Rattle.table_state.specs.Tables.{TableState, has_parent, is_found, is_there}
-use Rattle.indexed_rows.proofs.EntryLaws.{same_values}
+use Rattle.evaluator.specs.row_types.specs.declared.column.Column.{Column}
+use Rattle.evaluator.specs.row_types.specs.declared.value.Value.{Value}
+use Rattle.evaluator.specs.row_types.specs.Order.{key_order}
+use Rattle.evaluator.specs.row_types.proofs.OrderLaws.{key_total, key_exact}
+use Rattle.evaluator.specs.tier_base.specs.declared.code.Code.{Code}
+use Rattle.evaluator.specs.tier_base.specs.declared.code.Code.TheVariants.{ChildExists, KeyColumnSet, KeyExists, NullNotAllowed, OutOfRange, ParentMissing, TypeMismatch}
+use Rattle.evaluator.specs.tier_base.specs.declared.number.TableId.{TableId}
+use Rattle.evaluator.specs.row_types.specs.declared.rule.Detail.{Detail}
+use Rattle.evaluator.specs.row_types.specs.declared.rule.Detail.TheVariants as detail
+use Rattle.evaluator.specs.table_defs.specs.declared.definition.TableDef.{TableDef}
+use Rattle.evaluator.specs.table_state.specs.declared.operation.Op.{Op}
+use Rattle.evaluator.specs.table_state.specs.declared.operation.Op.TheVariants.{Insert, Update, Delete}
+use Rattle.evaluator.specs.table_state.specs.declared.refusal.ApplyError.{ApplyError}
+use Rattle.evaluator.specs.table_state.specs.declared.refusal.ApplyError.TheVariants as error
+use Rattle.evaluator.specs.table_state.specs.Operations.{applied, on_table, only_if, with_change, with_row, without_row}
+use Rattle.evaluator.specs.indexed_rows.specs.Rows.{changes, Table, key_of}
+use Rattle.evaluator.specs.table_state.specs.Refusals.{broken_by, broken_by_all, changed_key, column_name, delete_fault, differing, first_child, first_refused, has_children, in_table, insert_fault, misfit, missing_parent, parent_row, refused, refused_at, taken_key, update_fault}
+use Rattle.evaluator.specs.table_state.specs.Tables.{TableState, has_parent, is_found, is_there}
+use Rattle.evaluator.specs.indexed_rows.proofs.EntryLaws.{same_values}
 use Rattle.evaluator.specs.Cascades.{key_in}
-use Rattle.table_state.proofs.PairLaws.{Every, Pairs}
+use Rattle.evaluator.specs.table_state.proofs.PairLaws.{Every, Pairs}
 use Rattle.transactions.specs.Differing.{is_difference}
 use Rattle.transactions.proofs.TouchLaws.{applied_schema}
 

@@ -5,23 +5,23 @@ use Rattle.std.specs.Option.{option_and_then, option_map, option_or, option_to_l
 use Rattle.std.proofs.lemmas.Grind.{flat_map-append}
 use Rattle.std.proofs.lemmas.Bool.{eq-eqb}
 use Rattle.std.proofs.lemmas.List.Folds.{list_all-append}
-use Rattle.row_types.specs.declared.rule.Rule.{Rule}
-use Rattle.row_types.specs.declared.truth.Truth.{Truth}
-use Rattle.row_types.specs.declared.truth.Truth.TheVariants.{True, False, Unknown}
-use Rattle.row_types.specs.declared.value.Value.{Value}
-use Rattle.tier_base.specs.declared.limit.Limit.TheVariants.{Operations, Rows}
-use Rattle.tier_base.specs.declared.number.TableId.{TableId}
-use Rattle.table_defs.specs.declared.definition.ForeignKey.{ForeignKey}
-use Rattle.table_defs.specs.declared.definition.TableDef.{TableDef}
-use Rattle.table_state.specs.declared.operation.Op.{Op}
-use Rattle.table_state.specs.declared.operation.Op.TheVariants as op
-use Rattle.table_state.specs.declared.refusal.ApplyError.{ApplyError}
-use Rattle.table_state.specs.Operations.{applied, applied_all, on_table, table_of}
-use Rattle.table_state.specs.Refusals.{broken_by, broken_by_all}
-use Rattle.indexed_rows.specs.Rows.{Table}
-use Rattle.table_state.specs.Tables.{TableState}
-use Rattle.table_state.proofs.ChangeLaws.{applies}
-use Rattle.table_state.proofs.HistoryLaws.{applied_all-append}
+use Rattle.evaluator.specs.row_types.specs.declared.rule.Rule.{Rule}
+use Rattle.evaluator.specs.row_types.specs.declared.truth.Truth.{Truth}
+use Rattle.evaluator.specs.row_types.specs.declared.truth.Truth.TheVariants.{True, False, Unknown}
+use Rattle.evaluator.specs.row_types.specs.declared.value.Value.{Value}
+use Rattle.evaluator.specs.tier_base.specs.declared.limit.Limit.TheVariants.{Operations, Rows}
+use Rattle.evaluator.specs.tier_base.specs.declared.number.TableId.{TableId}
+use Rattle.evaluator.specs.table_defs.specs.declared.definition.ForeignKey.{ForeignKey}
+use Rattle.evaluator.specs.table_defs.specs.declared.definition.TableDef.{TableDef}
+use Rattle.evaluator.specs.table_state.specs.declared.operation.Op.{Op}
+use Rattle.evaluator.specs.table_state.specs.declared.operation.Op.TheVariants as op
+use Rattle.evaluator.specs.table_state.specs.declared.refusal.ApplyError.{ApplyError}
+use Rattle.evaluator.specs.table_state.specs.Operations.{applied, applied_all, on_table, table_of}
+use Rattle.evaluator.specs.table_state.specs.Refusals.{broken_by, broken_by_all}
+use Rattle.evaluator.specs.indexed_rows.specs.Rows.{Table}
+use Rattle.evaluator.specs.table_state.specs.Tables.{TableState}
+use Rattle.evaluator.specs.table_state.proofs.ChangeLaws.{applies}
+use Rattle.evaluator.specs.table_state.proofs.HistoryLaws.{applied_all-append}
 use Rattle.evaluator.specs.declared.change.Action.{Action}
 use Rattle.evaluator.specs.declared.change.Action.TheVariants.{Insert, Update, Delete}
 use Rattle.evaluator.specs.declared.change.Change.{Change}

@@ -1,15 +1,15 @@
 -- Laws of what writes do.
 use Rattle.std.proofs.Common.{◌≡◌, ℕ, zero, suc, ◌+◌, ◌-◌, ◌<◌, ◌≤◌, Option, Some, None, Result, Ok, Err, List, [], ◌∷◌, ◌++◌, length, drop, slice_get, get_or, unwrap_or, refl, sym, ap, subst, ◌∙◌, arith, append_assoc, length-append}
-use Rattle.table_state.specs.declared.operation.Op.{Op}
-use Rattle.table_state.specs.declared.refusal.ApplyError.{ApplyError}
-use Rattle.table_state.specs.Operations.{applied_all}
-use Rattle.table_state.specs.Refusals.{broken_by_all}
-use Rattle.table_state.specs.Tables.{TableState}
-use Rattle.table_state.proofs.HistoryLaws.{applied_all-append, none_all}
+use Rattle.evaluator.specs.table_state.specs.declared.operation.Op.{Op}
+use Rattle.evaluator.specs.table_state.specs.declared.refusal.ApplyError.{ApplyError}
+use Rattle.evaluator.specs.table_state.specs.Operations.{applied_all}
+use Rattle.evaluator.specs.table_state.specs.Refusals.{broken_by_all}
+use Rattle.evaluator.specs.table_state.specs.Tables.{TableState}
+use Rattle.evaluator.specs.table_state.proofs.HistoryLaws.{applied_all-append, none_all}
 use Rattle.evaluator.specs.declared.change.Change.{Change}
 use Rattle.evaluator.specs.Writes.{effects_of}
-use Rattle.table_state.specs.Keyed.{IsKeyed}
-use Rattle.table_state.proofs.KeyedLaws.{ops_keyed}
+use Rattle.evaluator.specs.table_state.specs.Keyed.{IsKeyed}
+use Rattle.evaluator.specs.table_state.proofs.KeyedLaws.{ops_keyed}
 use Rattle.std.specs.Option.{option_and_then}
 use Rattle.transactions.specs.declared.written.Written.{Written}
 use Rattle.transactions.specs.Transactions.{Done, Leaves, and_then, applied_to, behind, joined, left_by, rows_in, written_by, written_in}

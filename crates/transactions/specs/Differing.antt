@@ -1,10 +1,10 @@
 -- When an operation can find another row than it names.
 
 use Rattle.std.specs.Prelude.{◌≡◌, ◌<◌, ℕ, List, Option, Some, None, Bool, true, false, slice_get}
-use Rattle.table_defs.specs.declared.definition.ForeignKey.{ForeignKey}
-use Rattle.table_defs.specs.declared.definition.TableDef.{TableDef}
-use Rattle.table_state.specs.declared.refusal.ApplyError.{ApplyError}
-use Rattle.table_state.specs.declared.refusal.ApplyError.TheVariants as error
+use Rattle.evaluator.specs.table_defs.specs.declared.definition.ForeignKey.{ForeignKey}
+use Rattle.evaluator.specs.table_defs.specs.declared.definition.TableDef.{TableDef}
+use Rattle.evaluator.specs.table_state.specs.declared.refusal.ApplyError.{ApplyError}
+use Rattle.evaluator.specs.table_state.specs.declared.refusal.ApplyError.TheVariants as error
 
 -- each foreign key refers to a table before its own
 abbrev pub RefersBack : List TableDef → Type 0

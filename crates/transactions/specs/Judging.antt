@@ -1,12 +1,12 @@
 -- Whether one operation can be applied.
 
 use Rattle.std.specs.Prelude.{List, [], ◌∷◌, Option}
-use Rattle.tier_base.specs.declared.number.TableId.{TableId}
-use Rattle.row_types.specs.declared.value.Value.{Value}
-use Rattle.table_state.specs.declared.operation.Op.TheVariants.{Insert, Update, Delete}
-use Rattle.table_state.specs.declared.refusal.ApplyError.{ApplyError}
-use Rattle.table_state.specs.Refusals.{broken_by_all}
-use Rattle.table_state.specs.Tables.{TableState}
+use Rattle.evaluator.specs.tier_base.specs.declared.number.TableId.{TableId}
+use Rattle.evaluator.specs.row_types.specs.declared.value.Value.{Value}
+use Rattle.evaluator.specs.table_state.specs.declared.operation.Op.TheVariants.{Insert, Update, Delete}
+use Rattle.evaluator.specs.table_state.specs.declared.refusal.ApplyError.{ApplyError}
+use Rattle.evaluator.specs.table_state.specs.Refusals.{broken_by_all}
+use Rattle.evaluator.specs.table_state.specs.Tables.{TableState}
 
 -- the first rule that an insert of this row breaks
 abbrev pub broken_by_insert : TableId → List Value → TableState → Option ApplyError

@@ -3,10 +3,10 @@
 
 use Rattle.std.specs.Prelude.{◌≡◌, List, Option, Some, None, Bool, true, false, ◌||◌, is_some, slice_get}
 use Rattle.std.specs.List.{list_all, list_any}
-use Rattle.table_defs.specs.declared.definition.TableDef.{TableDef}
-use Rattle.table_state.specs.declared.operation.Op.{Op}
-use Rattle.table_state.specs.Operations.{table_of}
-use Rattle.table_state.specs.Tables.{TableState}
+use Rattle.evaluator.specs.table_defs.specs.declared.definition.TableDef.{TableDef}
+use Rattle.evaluator.specs.table_state.specs.declared.operation.Op.{Op}
+use Rattle.evaluator.specs.table_state.specs.Operations.{table_of}
+use Rattle.evaluator.specs.table_state.specs.Tables.{TableState}
 use Rattle.evaluator.specs.declared.change.Change.{Change}
 use Rattle.transactions.specs.Transactions.{is_of}
 

@@ -2,16 +2,16 @@
 -- transaction are done one after the other, and all or none, is what its COMMIT promises.)
 
 use Rattle.std.specs.Prelude.{◌≡◌, ℕ, ◌+◌, ◌-◌, List, [], ◌∷◌, ◌++◌, Option, Some, None, Bool, ◌==◌, count_by, length, unwrap_or, Result, Ok, Err}
-use Rattle.tier_base.specs.Limits.{greatest}
-use Rattle.tier_base.specs.declared.limit.Limit.TheVariants.{Operations}
-use Rattle.tier_base.specs.declared.number.TableId.{TableId}
-use Rattle.row_types.specs.declared.rule.Rule.{Rule}
-use Rattle.table_state.specs.declared.operation.Op.{Op}
-use Rattle.table_state.specs.declared.refusal.ApplyError.{ApplyError}
-use Rattle.table_state.specs.declared.refusal.ApplyError.TheVariants as error
-use Rattle.table_state.specs.Operations.{applied_all, table_of}
-use Rattle.table_state.specs.Refusals.{broken_by_all}
-use Rattle.table_state.specs.Tables.{TableState}
+use Rattle.evaluator.specs.tier_base.specs.Limits.{greatest}
+use Rattle.evaluator.specs.tier_base.specs.declared.limit.Limit.TheVariants.{Operations}
+use Rattle.evaluator.specs.tier_base.specs.declared.number.TableId.{TableId}
+use Rattle.evaluator.specs.row_types.specs.declared.rule.Rule.{Rule}
+use Rattle.evaluator.specs.table_state.specs.declared.operation.Op.{Op}
+use Rattle.evaluator.specs.table_state.specs.declared.refusal.ApplyError.{ApplyError}
+use Rattle.evaluator.specs.table_state.specs.declared.refusal.ApplyError.TheVariants as error
+use Rattle.evaluator.specs.table_state.specs.Operations.{applied_all, table_of}
+use Rattle.evaluator.specs.table_state.specs.Refusals.{broken_by_all}
+use Rattle.evaluator.specs.table_state.specs.Tables.{TableState}
 use Rattle.evaluator.specs.declared.change.Change.{Change}
 use Rattle.evaluator.specs.Writes.{effects_of}
 use Rattle.transactions.specs.declared.written.Written.{Written}

@@ -2,16 +2,16 @@
 
 ghost use Rattle.std.specs.Prelude.{◌≡◌, ◌+◌, ◌<◌, IfOk, Some, drop, length, slice_get};
 ghost use Rattle.std.specs.Option.{option_or};
-ghost use Rattle.table_state.specs.Independence.{IsWhole, refers_to};
-ghost use Rattle.table_state.specs.Refusals.{child_of, first_child};
-ghost use Rattle.table_state.specs.Tables.{table_at};
-ghost use Rattle.table_state.specs.Keyed.{IsKeyed};
+ghost use Rattle.evaluator.specs.table_state.specs.Independence.{IsWhole, refers_to};
+ghost use Rattle.evaluator.specs.table_state.specs.Refusals.{child_of, first_child};
+ghost use Rattle.evaluator.specs.table_state.specs.Tables.{table_at};
+ghost use Rattle.evaluator.specs.table_state.specs.Keyed.{IsKeyed};
 
-use row_types::{Detail, Key};
+use evaluator::row_types::{Detail, Key};
+use evaluator::table_defs::{ForeignKey, TableDef};
+use evaluator::table_state::{Scan, key_of_row};
+use evaluator::tier_base::TableId;
 use std::alloc::{AllocError, Global};
-use table_defs::{ForeignKey, TableDef};
-use table_state::{Scan, key_of_row};
-use tier_base::TableId;
 
 /// The table and the least key of the first row that refers to the row of this table and key, in the order of the
 /// tables' definition. It fails for want of memory alone, as it does behind 2^32 tables.

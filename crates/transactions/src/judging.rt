@@ -2,24 +2,24 @@
 
 ghost use Rattle.std.specs.Prelude.{◌≡◌, IfOk, None, Some, slice_get, if◌then◌else◌};
 ghost use Rattle.std.specs.FinMap as map;
-ghost use Rattle.row_types.specs.declared.rule.Detail.TheVariants as detail;
-ghost use Rattle.tier_base.specs.declared.code.Code.TheVariants as code;
-ghost use Rattle.table_state.specs.Independence.{IsWhole};
-ghost use Rattle.table_state.specs.declared.refusal.ApplyError.TheVariants as error;
-ghost use Rattle.table_state.specs.Refusals.{Judges, delete_fault, has_children, insert_fault, missing_parent, refused, row_of, update_fault};
-ghost use Rattle.indexed_rows.specs.Rows.{is_same};
-ghost use Rattle.table_state.specs.Tables.{is_found, table_at};
-ghost use Rattle.table_state.specs.Keyed.{IsKeyed};
+ghost use Rattle.evaluator.specs.row_types.specs.declared.rule.Detail.TheVariants as detail;
+ghost use Rattle.evaluator.specs.tier_base.specs.declared.code.Code.TheVariants as code;
+ghost use Rattle.evaluator.specs.table_state.specs.Independence.{IsWhole};
+ghost use Rattle.evaluator.specs.table_state.specs.declared.refusal.ApplyError.TheVariants as error;
+ghost use Rattle.evaluator.specs.table_state.specs.Refusals.{Judges, delete_fault, has_children, insert_fault, missing_parent, refused, row_of, update_fault};
+ghost use Rattle.evaluator.specs.indexed_rows.specs.Rows.{is_same};
+ghost use Rattle.evaluator.specs.table_state.specs.Tables.{is_found, table_at};
+ghost use Rattle.evaluator.specs.table_state.specs.Keyed.{IsKeyed};
 ghost use Rattle.transactions.specs.Judging.{broken_by_delete, broken_by_insert, broken_by_update};
 
 use crate::children::first_child;
-use indexed_rows::key_at;
-use row_types::{Detail, Key, Row, Rule, order_of_values};
+use evaluator::indexed_rows::key_at;
+use evaluator::row_types::{Detail, Key, Row, Rule, order_of_values};
+use evaluator::table_defs::TableDef;
+use evaluator::table_state::{ApplyError, Scan, check_key_stays, check_row, key_of_row};
+use evaluator::tier_base::{Code, TableId};
 use std::alloc::{AllocError, Global};
 use std::cmp::Ordering;
-use table_defs::TableDef;
-use table_state::{ApplyError, Scan, check_key_stays, check_row, key_of_row};
-use tier_base::{Code, TableId};
 
 /// Whether a row can be inserted, without inserting it. So the operation of an INSERT is judged over rows that can't
 /// be changed in place.

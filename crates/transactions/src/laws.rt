@@ -1,16 +1,16 @@
 //! Laws of what writes do, each on the contract of a function that does nothing.
 
 ghost use Rattle.std.specs.Prelude.{◌≡◌, ◌<◌, ℕ, ◌∷◌, ◌++◌, [], Err, List, None, Ok, Some, false, length};
-ghost use Rattle.row_types.specs.declared.declaration.TableDeclaration.{TableDeclaration};
-ghost use Rattle.table_defs.specs.declared.definition.ForeignKey.{ForeignKey};
-ghost use Rattle.table_defs.specs.declared.definition.TableDef.{TableDef};
-ghost use Rattle.table_state.specs.declared.operation.Op.{Op};
-ghost use Rattle.table_state.specs.declared.refusal.ApplyError.{ApplyError};
-ghost use Rattle.table_defs.specs.Declarations.{fault_of, resolved};
-ghost use Rattle.table_state.specs.Operations.{applied_all};
-ghost use Rattle.table_state.specs.Refusals.{broken_by_all};
-ghost use Rattle.table_state.specs.Tables.{TableState};
-ghost use Rattle.table_state.specs.Keyed.{IsKeyed};
+ghost use Rattle.evaluator.specs.row_types.specs.declared.declaration.TableDeclaration.{TableDeclaration};
+ghost use Rattle.evaluator.specs.table_defs.specs.declared.definition.ForeignKey.{ForeignKey};
+ghost use Rattle.evaluator.specs.table_defs.specs.declared.definition.TableDef.{TableDef};
+ghost use Rattle.evaluator.specs.table_state.specs.declared.operation.Op.{Op};
+ghost use Rattle.evaluator.specs.table_state.specs.declared.refusal.ApplyError.{ApplyError};
+ghost use Rattle.evaluator.specs.table_defs.specs.Declarations.{fault_of, resolved};
+ghost use Rattle.evaluator.specs.table_state.specs.Operations.{applied_all};
+ghost use Rattle.evaluator.specs.table_state.specs.Refusals.{broken_by_all};
+ghost use Rattle.evaluator.specs.table_state.specs.Tables.{TableState};
+ghost use Rattle.evaluator.specs.table_state.specs.Keyed.{IsKeyed};
 ghost use Rattle.evaluator.specs.declared.change.Change.{Change};
 ghost use Rattle.evaluator.specs.Writes.{effects_of};
 ghost use Rattle.transactions.specs.Differing.{RefersBack, is_difference};

@@ -7,6 +7,7 @@ pub mod laws;
 pub mod writing;
 pub mod written;
 
+pub use evaluator;
 pub use judging::{judge_delete, judge_insert, judge_update};
 pub use writing::write_all;
 pub use written::Written;

@@ -1,21 +1,21 @@
 //! The writes of one transaction.
 
 ghost use Rattle.std.specs.Prelude.{◌≡◌, ◌≤◌, IfErr, IfOk, OnErr, OnOk, Some, length};
-ghost use Rattle.tier_base.specs.Limits.{greatest};
-ghost use Rattle.tier_base.specs.declared.limit.Limit.TheVariants.{Operations};
-ghost use Rattle.table_state.specs.Keyed.{IsKeyed};
-ghost use Rattle.table_state.specs.Changes.{LeadsBack};
-ghost use Rattle.table_state.specs.Operations.{applied_all};
-ghost use Rattle.table_state.specs.Refusals.{IsFault, broken_by_all};
-ghost use Rattle.table_state.specs.Tables.{TableState};
+ghost use Rattle.evaluator.specs.tier_base.specs.Limits.{greatest};
+ghost use Rattle.evaluator.specs.tier_base.specs.declared.limit.Limit.TheVariants.{Operations};
+ghost use Rattle.evaluator.specs.table_state.specs.Keyed.{IsKeyed};
+ghost use Rattle.evaluator.specs.table_state.specs.Changes.{LeadsBack};
+ghost use Rattle.evaluator.specs.table_state.specs.Operations.{applied_all};
+ghost use Rattle.evaluator.specs.table_state.specs.Refusals.{IsFault, broken_by_all};
+ghost use Rattle.evaluator.specs.table_state.specs.Tables.{TableState};
 ghost use Rattle.transactions.specs.Transactions.{Leaves, Tells, written_by, written_by_all};
 
 use crate::written::{Written, rows_in};
+use evaluator::row_types::Refused;
+use evaluator::table_state::{ApplyError, Op, Tables, UndoLog};
+use evaluator::tier_base::{Limit, Seq};
 use evaluator::{Change, effects};
-use row_types::Refused;
 use std::alloc::Global;
-use table_state::{ApplyError, Op, Tables, UndoLog};
-use tier_base::{Limit, Seq};
 
 /// Does the writes of a transaction, one after the other, each on the tables as those before it leave them: all of
 /// them, or none. It answers the operations that it did, and how many rows it wrote.

@@ -3,9 +3,9 @@
 ghost use Rattle.std.specs.Prelude.{◌≡◌};
 ghost use Rattle.transactions.specs.Transactions.{nothing, rows_in};
 
+use evaluator::table_state::{Op, Ops};
+use evaluator::tier_base::{Seq, TableId};
 use std::alloc::Global;
-use table_state::{Op, Ops};
-use tier_base::{Seq, TableId};
 
 /// What writes did.
 #[derive(Drop)]

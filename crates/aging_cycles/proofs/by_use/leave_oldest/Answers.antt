@@ -1,4 +1,4 @@
-use Rattle.std.proofs.Common.{◌≡◌, ◌+◌, ◌-◌, ◌∙◌, Some, arith, false, subst, sym, true}
+use Rattle.std.proofs.Common.{◌≡◌, ◌+◌, ◌∙◌, arith, false, subst, sym, true}
 use Rattle.aging_cycles.proofs.ByUseLaws.{Walked, keys_once, walk_full, walk_none, walk_skips, walk_takes}
 use Rattle.aging_cycles.proofs.by_use.leave_oldest.Goals as goal
 use Rattle.aging_cycles.proofs.by_use.leave_oldest.Goals.{then-step, else-step}

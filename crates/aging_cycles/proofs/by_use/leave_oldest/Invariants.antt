@@ -1,6 +1,5 @@
 -- So many have been looked at, and where none has left the store is as it was.
 use Rattle.std.proofs.Common.{◌≡◌, false}
-use Rattle.cache_tier.specs.Standing.{AreDistinct}
 use Rattle.aging_cycles.proofs.ByUseLaws.{Walked}
 use Rattle.aging_cycles.proofs.by_use.leave_oldest.Given as goal
 

@@ -1,8 +1,8 @@
-use Rattle.std.proofs.Common.{◌<◌, ◌∙◌, List, Some, ap, length, refl, subst, sym}
+use Rattle.std.proofs.Common.{◌<◌, ◌∙◌, List, ap, length, subst, sym}
 use Rattle.group_catalog.specs.Catalogs.{groups_in}
 use Rattle.cache_tier.specs.Groups.{Group}
 use Rattle.stored_tier.specs.declared.tier.Tier.{Tier}
-use Rattle.aging_cycles.specs.Running.{DueHorizon, turned}
+use Rattle.aging_cycles.specs.Running.{turned}
 use Rattle.aging_cycles.proofs.Steps.{runs_left, runs_none}
 use Rattle.aging_cycles.proofs.running.run_at.Goals as goal
 

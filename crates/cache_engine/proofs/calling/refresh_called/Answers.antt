@@ -3,7 +3,7 @@ use Rattle.std.proofs.Common.{ap, refl, ◌∙◌}
 use Rattle.cache_tier.specs.declared.reply.Last.TheVariants.{Done}
 use Rattle.cache_tier.specs.Worlds.{only}
 use Rattle.cache_engine.proofs.CallingLaws.{refresh_done, refresh_ended}
-use Rattle.group_engine.proofs.TriedLaws.{stands_entered, with_sets}
+use Rattle.dynamic_loads.specs.OfGroupEngine.TriedLaws.{stands_entered, with_sets}
 use Rattle.cache_engine.proofs.calling.refresh_called.Goals as goal
 
 pub returns-in-Err-clause-performs : goal.returns-in-Err-clause-performs

@@ -1,5 +1,5 @@
 use Rattle.propagators.proofs.CertainLaws.{same_certain}
-use Rattle.group_engine.proofs.RefreshedSets.{refresh_does, refresh_failed, refresh_passes}
+use Rattle.dynamic_loads.specs.OfGroupEngine.RefreshedSets.{refresh_does, refresh_failed, refresh_passes}
 use Rattle.cache_engine.proofs.due_work.refresh_set.Goals as goal
 
 pub returns-then-not-shows_something-clause-performs : goal.returns-then-not-shows_something-clause-performs

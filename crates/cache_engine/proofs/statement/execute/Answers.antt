@@ -1,7 +1,6 @@
 use Rattle.std.proofs.Common.{refl}
 use Rattle.session_engine.proofs.DoubtLaws.{ready_none}
 use Rattle.stored_tier.specs.Performing.{reply_of}
-use Rattle.propagators.proofs.CertainLaws.{same_certain}
 use Rattle.cache_engine.proofs.CauseLaws.{caused_bank}
 use Rattle.cache_engine.proofs.EngineLaws.{ended_executes, flush_executes, roll_back_executes}
 use Rattle.cache_engine.proofs.statement.execute.Goals as goal

@@ -7,14 +7,14 @@ pub returns-in_err-looked-clause-crash : goal.returns-in_err-looked-clause-crash
 returns-in_err-looked-clause-crash g c = λ o h have.
     let s = c.in_ok-found.ensures.found o h.told in
     let n = c.in_ok-opened.ensures.opened o s have in
-    let keeps = and_then g.D.Disk.state g.D.Disk.possible c.args.d.now c.survey.new.d c.open_surveyed.new.d (Keeps o) (c.survey.ensures.crash o h) (c.open_surveyed.ensures.crash o s have) in
+    let keeps = and_then g.D.Disk.state g.D.Disk.possible c.args.d.now c.survey.new.d c.open_surveyed.new.d (Keeps o) (c.survey.ensures.crash o h have) (c.open_surveyed.ensures.crash o s have) in
     kept_then g.D.Disk.state g.D.Disk.possible c.args.d.now c.open_surveyed.new.d c.with_bodies.new.d o n.now keeps n.certain (g.met.D.Disk.read_possible c.open_surveyed.new.d n.now n.certain.told) c.with_bodies.ensures.rests
 
 pub returns-clause-crash : goal.returns-clause-crash
 returns-clause-crash g c = λ o h have.
     let s = c.in_ok-found.ensures.found o h.told in
     let n = c.in_ok-opened.ensures.opened o s have in
-    let keeps = and_then g.D.Disk.state g.D.Disk.possible c.args.d.now c.survey.new.d c.open_surveyed.new.d (Keeps o) (c.survey.ensures.crash o h) (c.open_surveyed.ensures.crash o s have) in
+    let keeps = and_then g.D.Disk.state g.D.Disk.possible c.args.d.now c.survey.new.d c.open_surveyed.new.d (Keeps o) (c.survey.ensures.crash o h have) (c.open_surveyed.ensures.crash o s have) in
     kept_then g.D.Disk.state g.D.Disk.possible c.args.d.now c.open_surveyed.new.d c.with_bodies.new.d o n.now keeps n.certain (g.met.D.Disk.read_possible c.open_surveyed.new.d n.now n.certain.told) c.with_bodies.ensures.rests
 
 pub returns-clause-looked : goal.returns-clause-looked

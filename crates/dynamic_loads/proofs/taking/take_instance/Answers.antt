@@ -1,7 +1,7 @@
 use Rattle.std.proofs.Common.{◌∙◌, ap, map, refl, subst, sym}
 use Rattle.std.specs.FinMap as finite
 use Rattle.group_catalog.specs.Kept.{group_seen}
-use Rattle.aging_cycles.specs.Fitting.{AreFit}
+use Rattle.group_engine.specs.OfAgingCycles.Fitting.{AreFit}
 use Rattle.dynamic_loads.proofs.TakenParts.{may_put, took}
 use Rattle.dynamic_loads.proofs.taking.take_instance.Goals as goal
 

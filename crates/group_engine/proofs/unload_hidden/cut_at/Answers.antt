@@ -1,4 +1,4 @@
-use Rattle.aging_cycles.proofs.Walks.{got}
+use Rattle.changed_sets.specs.OfAgingCycles.Walks.{got}
 use Rattle.group_engine.specs.UnloadNamed.{FitsUnder}
 use Rattle.group_engine.proofs.UnloadHidden.{both_at, both_kept}
 use Rattle.group_engine.proofs.unload_hidden.cut_at.Goals as goal

@@ -1,4 +1,4 @@
-use Rattle.std.proofs.Common.{◌∙◌, false, refl, sym}
+use Rattle.std.proofs.Common.{◌∙◌, false, sym}
 use Rattle.group_engine.proofs.GroupComes.{sound_kept}
 use Rattle.group_engine.proofs.ReadyLaws.{calm_cause}
 use Rattle.group_engine.proofs.UnloadDone.{sound_cut}

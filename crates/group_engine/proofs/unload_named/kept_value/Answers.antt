@@ -1,6 +1,5 @@
-use Rattle.std.proofs.Common.{rules, ◌≡◌, ◌∙◌, ap, sym, subst, IfOk, IfSome, Option, Some, option_copied, slice_get}
+use Rattle.std.proofs.Common.{rules, ◌≡◌, ◌∙◌, ap, sym, subst, IfOk, IfSome, Some, option_copied, slice_get}
 use Rattle.std.proofs.lemmas.Option.{slice_get-get_or}
-use Rattle.row_types.specs.declared.value.Value.{Value}
 use Rattle.group_engine.specs.UnloadNamed.{NamesValue}
 use Rattle.group_engine.proofs.NamedKeys.{value_named}
 use Rattle.group_engine.proofs.unload_named.kept_value.Goals as goal

@@ -1,6 +1,6 @@
 use Rattle.std.proofs.Common.{take}
 use Rattle.group_store.specs.Stores.{SameButSpare}
-use Rattle.aging_cycles.specs.Running.{cut_all}
+use Rattle.changed_sets.specs.OfAgingCycles.Running.{cut_all}
 use Rattle.group_engine.proofs.unloading.cut_all.Given as goal
 
 abbrev pub invariant-loop-key : goal.invariant-loop-key

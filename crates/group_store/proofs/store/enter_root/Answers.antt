@@ -1,5 +1,5 @@
 use Rattle.std.proofs.Common.{rules, [], ap, sym, ◌∙◌}
-use Rattle.indexed_rows.specs.Rows.{key_of}
+use Rattle.slot_rows.specs.indexed_rows.specs.Rows.{key_of}
 use Rattle.group_store.specs.Entering.{keys_of_rows, root_entered}
 use Rattle.group_store.proofs.RootLaws.{one_key_less, one_key_more}
 use Rattle.group_store.proofs.store.enter_root.Goals as goal

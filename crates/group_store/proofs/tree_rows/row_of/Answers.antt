@@ -1,6 +1,6 @@
 use Rattle.std.proofs.Common.{length, subst}
 use Rattle.std.specs.Option.{option_copied}
-use Rattle.indexed_rows.specs.Rows.{key_of}
+use Rattle.slot_rows.specs.indexed_rows.specs.Rows.{key_of}
 use Rattle.slot_rows.specs.Orders.{IsRowWith}
 use Rattle.group_store.proofs.JoinedLaws.{front_is, row_found}
 use Rattle.group_store.proofs.tree_rows.row_of.Goals as goal

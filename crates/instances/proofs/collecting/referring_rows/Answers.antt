@@ -1,5 +1,5 @@
 use Rattle.std.proofs.Common.{Bool, List, ◌&&◌, ◌∙◌, option_copied, rules, sym}
-use Rattle.row_types.specs.declared.value.Value.{Value}
+use Rattle.expressions.specs.row_types.specs.declared.value.Value.{Value}
 use Rattle.instances.specs.Views.{refers_to_one, selects}
 use Rattle.instances.proofs.Gathering.{gathers_all, gathers_more, gathers_none, gathers_skip}
 use Rattle.instances.proofs.collecting.referring_rows.Goals as goal

@@ -1,6 +1,6 @@
 use Rattle.std.proofs.Common.{◌≡◌}
 use Rattle.std.specs.FinMap.{empty}
-use Rattle.indexed_rows.specs.Rows.{Table}
+use Rattle.table_state.specs.indexed_rows.specs.Rows.{Table}
 use Rattle.instances.specs.Collecting.{added}
 use Rattle.instances.specs.Views.{only, root_rows}
 use Rattle.instances.proofs.OnlyLaws.{if_ok, only_none, only_one}

@@ -1,5 +1,5 @@
 use Rattle.std.proofs.Common.{◌≡◌, ◌<◌, ◌∙◌, Bool, Fits, List, None, Option, Some, arith, rules, slice_get, sym, true, w64}
-use Rattle.row_types.specs.declared.value.Value.{Value}
+use Rattle.expressions.specs.row_types.specs.declared.value.Value.{Value}
 use Rattle.table_state.specs.Children.{refers_to}
 use Rattle.table_state.specs.Tables.{table_at}
 use Rattle.instances.specs.Collecting.{is_under}

@@ -1,6 +1,6 @@
 use Rattle.std.proofs.Common.{◌≡◌, ◌∙◌, ap, arith, rules}
 use Rattle.std.proofs.lemmas.Grind.{common_steps}
-use Rattle.indexed_rows.specs.Rows.{Table}
+use Rattle.table_state.specs.indexed_rows.specs.Rows.{Table}
 use Rattle.table_state.specs.Tables.{table_at}
 use Rattle.instances.specs.Views.{child_rows, kept_at}
 use Rattle.instances.proofs.OnlyLaws.{if_ok}

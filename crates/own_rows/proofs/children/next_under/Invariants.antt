@@ -2,7 +2,7 @@
 use Rattle.std.proofs.Common.{◌≡◌, ◌-◌, drop}
 use Rattle.std.specs.List.{slice_get}
 use Rattle.std.specs.FinMap.{entries}
-use Rattle.indexed_rows.specs.Rows.{first_from}
+use Rattle.table_state.specs.indexed_rows.specs.Rows.{first_from}
 use Rattle.table_state.specs.Children.{refers_to}
 use Rattle.table_state.specs.Tables.{table_at}
 use Rattle.own_rows.specs.Next.{stays_and}

@@ -1,7 +1,7 @@
 -- The rank is between both places.
 use Rattle.std.proofs.Common.{◌<◌, ◌≤◌, ◌-◌, ◌^◌}
 use Rattle.std.specs.FinMap.{len}
-use Rattle.indexed_rows.specs.Rows.{key_of}
+use Rattle.table_state.specs.indexed_rows.specs.Rows.{key_of}
 use Rattle.own_rows.specs.Ranks.{rank}
 use Rattle.own_rows.proofs.search.rank_of_row.Given as goal
 

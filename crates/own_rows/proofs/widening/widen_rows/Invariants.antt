@@ -1,6 +1,6 @@
 -- Each place more is bare.
 use Rattle.std.proofs.Common.{◌≡◌, ℕ, ◌+◌, ◌<◌, ◌^◌, List, length}
-use Rattle.table_defs.specs.declared.definition.TableDef.{TableDef as Def}
+use Rattle.table_state.specs.table_defs.specs.declared.definition.TableDef.{TableDef as Def}
 use Rattle.table_state.specs.declared.operation.Op.{Op}
 use Rattle.own_rows.specs.Laying.{HaveRoom}
 use Rattle.own_rows.specs.OwnTables.{AreRowsOf}

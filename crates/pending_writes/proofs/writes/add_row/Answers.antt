@@ -14,5 +14,5 @@ pub returns-in_ok-push-in-Some : goal.returns-in_ok-push-in-Some
 returns-in_ok-push-in-Some c = λ k.
     told_more k _ _ _ c.in_ok-push-in-Some.ensures.items
     ∙ ap (λ key. option_or (cond (same_row_key k (record { table = c.args.table; key = key })) (Some c.args.leaves) None) (told_by k c.args.writes.now.items)) (c.in_ok-key-in-Some.ensures)
-    ∙ ap (λ b. option_or (cond b (Some c.args.leaves) None) (told_by k c.args.writes.now.items)) (or_false (same_row_key k (record { table = c.args.table; key = Rattle.indexed_rows.specs.Rows.key_of c.in-Some.def.now.primary_key c.args.row.now })))
+    ∙ ap (λ b. option_or (cond b (Some c.args.leaves) None) (told_by k c.args.writes.now.items)) (or_false (same_row_key k (record { table = c.args.table; key = Rattle.table_state.specs.indexed_rows.specs.Rows.key_of c.in-Some.def.now.primary_key c.args.row.now })))
     ∙ ap (λ o. option_or (left_by_row k c.args.table (option_copied o) c.args.row.now c.args.leaves) (told_by k c.args.writes.now.items)) (sym c.in-Some.is)

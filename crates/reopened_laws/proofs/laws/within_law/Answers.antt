@@ -1,4 +1,5 @@
 use Rattle.reopened_laws.proofs.ProgramLaws.{runs_are_safe}
+use Rattle.reopened_laws.proofs.UnopenedLaws.{unopened_imports_are_safe, unopened_runs_are_safe}
 use Rattle.reopened_laws.proofs.WithinLaws.{broken_ends_are_safe, broken_lines_are_safe, flushed_are_safe, imports_are_safe, rests_are_safe}
 use Rattle.reopened_laws.proofs.laws.within_law.Goals as goal
 
@@ -19,3 +20,9 @@ returns-clause-unflushed g c = broken_ends_are_safe g.P.Disk.state g.P.Disk.poss
 
 pub returns-clause-imports : goal.returns-clause-imports
 returns-clause-imports g c = imports_are_safe g.P.Disk.state g.P.Disk.possible
+
+pub returns-clause-unopened : goal.returns-clause-unopened
+returns-clause-unopened g c = unopened_runs_are_safe g.P.Disk.state g.P.Disk.possible
+
+pub returns-clause-unimported : goal.returns-clause-unimported
+returns-clause-unimported g c = unopened_imports_are_safe g.P.Disk.state g.P.Disk.possible

@@ -1,6 +1,6 @@
 -- What is made of the expressions so far, and those that are left.
 use Rattle.std.proofs.Common.{◌≡◌, ◌++◌, ◌||◌, drop, map, take}
-use Rattle.expressions.specs.Types.{family_of}
+use Rattle.evaluator.specs.expressions.specs.Types.{family_of}
 use Rattle.resolution.specs.Literals.{some_unheld}
 use Rattle.resolution.specs.Placing.{expressions_seen, placed_list}
 use Rattle.resolution.specs.Results.{then_make}

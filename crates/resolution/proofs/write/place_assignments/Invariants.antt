@@ -1,6 +1,6 @@
 -- What SET sets so far, and the assignments that are left.
 use Rattle.std.proofs.Common.{◌≡◌, ◌||◌, drop, map, take}
-use Rattle.expressions.specs.Types.{family_of}
+use Rattle.evaluator.specs.expressions.specs.Types.{family_of}
 use Rattle.resolution.specs.Literals.{some_unheld}
 use Rattle.resolution.specs.Placing.{expressions_seen}
 use Rattle.resolution.specs.Scopes.{families, shown}

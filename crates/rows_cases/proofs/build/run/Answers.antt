@@ -1,5 +1,5 @@
 use Rattle.std.proofs.Common.{rules}
-use Rattle.table_state.proofs.KeyedLaws.{history_keyed}
+use Rattle.evaluator.specs.table_state.proofs.KeyedLaws.{history_keyed}
 use Rattle.rows_cases.proofs.build.run.Goals as goal
 
 pub returns-in-Ok : goal.returns-in-Ok

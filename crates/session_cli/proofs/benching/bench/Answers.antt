@@ -1,4 +1,4 @@
-use Rattle.std.proofs.Common.{◌≡◌, ◌∙◌, [], Some, ap, sym, refl}
+use Rattle.std.proofs.Common.{◌∙◌, Some, ap, sym, refl}
 use Rattle.backing_gate.specs.Memory.{MemoryState}
 use Rattle.session_cli.proofs.BenchLaws.{summarised}
 use Rattle.session_cli.proofs.benching.bench.Goals as goal

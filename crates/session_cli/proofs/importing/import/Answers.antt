@@ -1,5 +1,5 @@
 use Rattle.std.proofs.Common.{◌∙◌, Err, ap, refl, subst, sym}
-use Rattle.tier_opening.specs.Telling.{FailsAs}
+use Rattle.cache_engine.specs.OfTierOpening.Telling.{FailsAs}
 use Rattle.session_cli.specs.declared.serving.Status.TheVariants.{Finished, InputTooLong, NoMemory, SinkFailed, SourceFailed}
 use Rattle.session_cli.specs.Opening.{tier_settings}
 use Rattle.session_cli.specs.Timing.{bases_by}
@@ -8,15 +8,18 @@ use Rattle.session_cli.proofs.OpeningLaws.{bank_failed, disk_failed}
 use Rattle.session_cli.proofs.importing.import.Goals as goal
 
 pub returns-in_default-clause-imports : goal.returns-in_default-clause-imports
-returns-in_default-clause-imports g c = import_unstarted (tier_settings c.args.settings.now) c.args.word.now _ _ _ refl
+returns-in_default-clause-imports g c = import_unstarted g.P.Disk.state g.P.Disk.possible (tier_settings c.args.settings.now) c.args.word.now (g.S.Source.left c.args.source.now) (g.K.Sink.written c.args.sink.now)
+    (bases_by c.args.settings.now (g.C.Clock.coming c.args.clock.now)) (bases_by c.args.settings.now (g.C.Clock.coming c.args.clock.now)) c.args.site.now
 
 pub returns-in_default-new-clause-imports : goal.returns-in_default-new-clause-imports
-returns-in_default-new-clause-imports g c = import_unstarted (tier_settings c.args.settings.now) c.args.word.now _ _ _ refl
+returns-in_default-new-clause-imports g c = import_unstarted g.P.Disk.state g.P.Disk.possible (tier_settings c.args.settings.now) c.args.word.now (g.S.Source.left c.args.source.now) (g.K.Sink.written c.args.sink.now)
+    (bases_by c.args.settings.now (g.C.Clock.coming c.args.clock.now)) (bases_by c.args.settings.now (g.C.Clock.coming c.args.clock.now)) c.args.site.now
 
 pub returns-in-Err-clause-imports : goal.returns-in-Err-clause-imports
 returns-in-Err-clause-imports g c =
     import_unopened (tier_settings c.args.settings.now) c.args.word.now c.end_unopened.result _ _ _ c.in-Err.error c.end_unopened.ensures.tells c.first_moment-start.result.0 c.first_moment-start.ensures.next
     (subst (λ n. FailsAs c.first_moment-start.result.0 n (g.P.Disk.state c.args.site.now) (g.P.Disk.state c.open.new.site) c.in-Err.error) c.pace_in.ensures c.in-Err.ensures.cause.failed)
+    (λ there certain have. c.in-Err.ensures.fails there (tier_settings c.args.settings.now) certain have (sym c.pace_in.ensures))
 
 pub returns-in-Err-clause-read : goal.returns-in-Err-clause-read
 returns-in-Err-clause-read g c = λ is. absurd (import_not_source c.end_unopened.result _ _ c.in-Err.error c.end_unopened.ensures.tells is)

@@ -8,6 +8,7 @@ use Rattle.std.proofs.KnownBytes.{Appends-nil}
 use Rattle.session_cli.specs.declared.serving.Status.TheVariants.{DiskFailed, NoMemory, SchemaFailed}
 use Rattle.session_cli.specs.Ends.{takes_none}
 use Rattle.session_cli.specs.Opening.{tier_settings}
+use Rattle.session_cli.specs.Timing.{bases_by}
 use Rattle.session_cli.proofs.EndsLaws.{taken_unstarted}
 use Rattle.session_cli.proofs.OpeningLaws.{runs_unstarted}
 use Rattle.session_cli.proofs.CheckLaws.{check_unstarted}
@@ -28,7 +29,7 @@ pub returns-in-Err-clause-bad : goal.returns-in-Err-clause-bad
 returns-in-Err-clause-bad g c = λ task asks bad. bad_of (texts c.args.words.now) c.args.settings.now c.in-Err.status c.in-Err.ensures task asks
 
 pub returns-in-Err-clause-runs : goal.returns-in-Err-clause-runs
-returns-in-Err-clause-runs g c = λ asks s set. (NoMemory, none_left (texts c.args.words.now) c.args.settings.now c.in-Err.status c.in-Err.ensures command.Run asks s set, runs_unstarted (tier_settings s) _ _ _ refl)
+returns-in-Err-clause-runs g c = λ asks s set. (NoMemory, none_left (texts c.args.words.now) c.args.settings.now c.in-Err.status c.in-Err.ensures command.Run asks s set, runs_unstarted g.P.Disk.state g.P.Disk.possible (tier_settings s) (g.S.Source.left c.args.source.now) (g.K.Sink.written c.args.sink.now) (bases_by s (g.C.Clock.coming c.args.clock.now)) (bases_by s (g.C.Clock.coming c.args.clock.now)) c.args.site.now)
 
 pub returns-in-Err-clause-checks : goal.returns-in-Err-clause-checks
 returns-in-Err-clause-checks g c = λ asks s set. (NoMemory, none_left (texts c.args.words.now) c.args.settings.now c.in-Err.status c.in-Err.ensures command.Check asks s set, λ input start source sink. check_unstarted input start _ _ source sink)
@@ -43,7 +44,7 @@ pub returns-in-Err-clause-benches : goal.returns-in-Err-clause-benches
 returns-in-Err-clause-benches g c = λ m asks s set. (m, asks, end.NoMemory, none_left (texts c.args.words.now) c.args.settings.now c.in-Err.status c.in-Err.ensures (command.Bench m) asks s set, refl)
 
 pub returns-in-Err-clause-imports : goal.returns-in-Err-clause-imports
-returns-in-Err-clause-imports g c = λ any asks s set. (any, asks, NoMemory, none_left (texts c.args.words.now) c.args.settings.now c.in-Err.status c.in-Err.ensures (command.Import any) asks s set, import_unstarted (tier_settings s) any.now _ _ _ refl)
+returns-in-Err-clause-imports g c = λ any asks s set. (any, asks, NoMemory, none_left (texts c.args.words.now) c.args.settings.now c.in-Err.status c.in-Err.ensures (command.Import any) asks s set, import_unstarted g.P.Disk.state g.P.Disk.possible (tier_settings s) any.now (g.S.Source.left c.args.source.now) (g.K.Sink.written c.args.sink.now) (bases_by s (g.C.Clock.coming c.args.clock.now)) (bases_by s (g.C.Clock.coming c.args.clock.now)) c.args.site.now)
 
 pub returns-in-Err-clause-read : goal.returns-in-Err-clause-read
 returns-in-Err-clause-read g c = λ three. absurd (no_low (texts c.args.words.now) c.args.settings.now c.in-Err.status 3 c.in-Err.ensures three (lit≤ tt) (lit≤ tt))

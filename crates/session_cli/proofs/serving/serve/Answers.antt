@@ -1,5 +1,5 @@
 use Rattle.std.proofs.Common.{◌≡◌, ◌+◌, ◌∙◌, ap, arith, refl, inl, inr, subst, sym}
-use Rattle.tier_opening.specs.Telling.{FailsAs}
+use Rattle.cache_engine.specs.OfTierOpening.Telling.{FailsAs}
 use Rattle.session_cli.specs.declared.serving.Status.TheVariants.{NoMemory, SchemaFailed}
 use Rattle.session_cli.specs.declared.session.Session.{Session}
 use Rattle.session_cli.specs.Timing.{AreLeft}
@@ -8,13 +8,13 @@ use Rattle.session_cli.proofs.OpeningLaws.{bank_failed, disk_failed, is_bank, is
 use Rattle.session_cli.proofs.serving.serve.Goals as goal
 
 pub returns-in_default-clause-runs : goal.returns-in_default-clause-runs
-returns-in_default-clause-runs g c = λ settings ms. runs_unstarted settings _ _ _ refl
+returns-in_default-clause-runs g c = λ settings ms. runs_unstarted g.P.Disk.state g.P.Disk.possible settings (g.S.Source.left c.args.source.now) (g.K.Sink.written c.args.sink.now) (g.C.Clock.coming c.args.clock.now) (g.C.Clock.coming c.args.clock.now) c.args.site.now
 
 pub returns-in_default-new-clause-runs : goal.returns-in_default-new-clause-runs
-returns-in_default-new-clause-runs g c = λ settings ms. runs_unstarted settings _ _ _ refl
+returns-in_default-new-clause-runs g c = λ settings ms. runs_unstarted g.P.Disk.state g.P.Disk.possible settings (g.S.Source.left c.args.source.now) (g.K.Sink.written c.args.sink.now) (g.C.Clock.coming c.args.clock.now) (g.C.Clock.coming c.args.clock.now) c.args.site.now
 
 pub returns-in_default-new-2-clause-runs : goal.returns-in_default-new-2-clause-runs
-returns-in_default-new-2-clause-runs g c = λ settings ms. runs_unstarted settings _ _ _ refl
+returns-in_default-new-2-clause-runs g c = λ settings ms. runs_unstarted g.P.Disk.state g.P.Disk.possible settings (g.S.Source.left c.args.source.now) (g.K.Sink.written c.args.sink.now) (g.C.Clock.coming c.args.clock.now) (g.C.Clock.coming c.args.clock.now) c.args.site.now
 
 pub returns-in-Ok-open-clause-runs : goal.returns-in-Ok-open-clause-runs
 returns-in-Ok-open-clause-runs g c = λ settings ms.
@@ -27,6 +27,7 @@ returns-in-Ok-open-clause-runs g c = λ settings ms.
 pub returns-clause-runs : goal.returns-clause-runs
 returns-clause-runs g c = λ settings ms.
     runs_unopened settings c.end_unopened.result _ _ _ c.in-Err.error c.end_unopened.ensures.tells c.now-start.result.0 c.now-start.ensures.told (subst (λ n. FailsAs c.now-start.result.0 n (g.P.Disk.state c.args.site.now) (g.P.Disk.state c.open.new.site) c.in-Err.error) (sym ms) c.in-Err.ensures.cause.failed)
+    (λ there certain have. c.in-Err.ensures.fails there settings certain have ms)
 
 pub returns-clause-takes : goal.returns-clause-takes
 returns-clause-takes g c = λ input source. taken_unopened input _ c.end_unopened.result (kinds_of c.end_unopened.result _ _ c.in-Err.error c.end_unopened.ensures.tells) source

@@ -1,6 +1,6 @@
 -- Found among what is stored.
 use Rattle.std.proofs.Common.{◌∙◌}
-use Rattle.indexed_rows.specs.Rows.{key_of}
+use Rattle.own_rows.specs.indexed_rows.specs.Rows.{key_of}
 use Rattle.session_state.proofs.LockLaws.{keeper_is}
 use Rattle.session_state.proofs.locks.keeper.Goals as goal
 

@@ -1,8 +1,8 @@
 -- Who wrote the key comes before who holds it.
 use Rattle.std.proofs.Common.{None, map, sym, ap, ◌∙◌}
 use Rattle.std.specs.Option.{option_copied, option_or}
-use Rattle.indexed_rows.specs.Rows.{key_of}
-use Rattle.table_state.specs.Footprints.{written_key}
+use Rattle.own_rows.specs.indexed_rows.specs.Rows.{key_of}
+use Rattle.own_rows.specs.table_state.specs.Footprints.{written_key}
 use Rattle.session_state.specs.Kept.{seen_of}
 use Rattle.session_state.specs.Locks.{first_some, keeper, met, writer}
 use Rattle.session_state.proofs.LockLaws.{or_none}

@@ -1,6 +1,6 @@
 -- Each place more has no keys.
 use Rattle.std.proofs.Common.{◌≡◌, ℕ, ◌<◌, ◌≤◌, ◌^◌, List, length}
-use Rattle.table_state.specs.declared.footprint.RowKey.{RowKey}
+use Rattle.own_rows.specs.table_state.specs.declared.footprint.RowKey.{RowKey}
 use Rattle.session_state.specs.Holding.{AreKeysOf, KeysHaveRoom}
 use Rattle.session_state.proofs.putting.widen_keys.Given as goal
 

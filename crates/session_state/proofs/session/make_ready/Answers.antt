@@ -1,7 +1,7 @@
 -- The tables of the operations are there.
 use Rattle.std.proofs.Common.{◌<◌, length, sym, subst}
 use Rattle.std.specs.List.{All}
-use Rattle.table_state.specs.Operations.{table_of}
+use Rattle.own_rows.specs.table_state.specs.Operations.{table_of}
 use Rattle.session_state.proofs.KeptLaws.{tables_in}
 use Rattle.session_state.proofs.session.make_ready.Goals as goal
 

@@ -1,5 +1,5 @@
 use Rattle.std.proofs.Common.{ℕ, List, subst, refl, sym, length, ◌≤◌}
-use Rattle.sql_tokens.specs.Lexing.{Lexeme}
+use Rattle.sql_grammar.specs.sql_tokens.specs.Lexing.{Lexeme}
 use Rattle.sql_phrases.specs.Reading.{at_comma, with_last, identifier_of, identifiers_of}
 use Rattle.sql_phrases.proofs.Chains.{chain_first, chain_more, chain_ends, chain_shorter}
 use Rattle.sql_phrases.proofs.Shrinking.{identifier_shrinks}

@@ -1,5 +1,5 @@
 use Rattle.std.proofs.Common.{ℕ, List, subst, refl, sym, length, ◌≤◌}
-use Rattle.sql_tokens.specs.Lexing.{Lexeme}
+use Rattle.sql_grammar.specs.sql_tokens.specs.Lexing.{Lexeme}
 use Rattle.sql_query.specs.declared.write.Assignment.{Assignment}
 use Rattle.sql_phrases.specs.Reading.{at_comma, with_last}
 use Rattle.sql_phrases.specs.Writes.{assignment_of, assignments_of}

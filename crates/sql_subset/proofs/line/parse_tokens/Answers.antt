@@ -1,5 +1,5 @@
 use Rattle.std.proofs.Common.{length}
-use Rattle.sql_tokens.specs.Lexing.{lexed}
+use Rattle.sql_phrases.specs.sql_tokens.specs.Lexing.{lexed}
 use Rattle.sql_subset.proofs.Meaning.{told_says, told_at, told_deep}
 use Rattle.sql_subset.proofs.line.parse_tokens.Goals as goal
 

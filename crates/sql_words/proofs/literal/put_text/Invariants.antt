@@ -1,7 +1,7 @@
 -- The bytes so far stand quoted behind what was there, but for the last quote.
 use Rattle.std.proofs.Common.{◌≡◌, ◌++◌, ◌∷◌, take}
 use Rattle.std.specs.List.{flat_map}
-use Rattle.row_types.specs.Printing.{doubled_quote}
+use Rattle.sql_phrases.specs.row_types.specs.Printing.{doubled_quote}
 use Rattle.sql_words.proofs.literal.put_text.Given as goal
 
 abbrev pub invariant-loop-byte : goal.invariant-loop-byte

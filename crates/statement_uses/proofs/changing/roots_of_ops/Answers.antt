@@ -3,7 +3,6 @@ use Rattle.std.proofs.Common.{◌+◌, ◌++◌, drop, take, length, sym, subst,
 use Rattle.own_rows.specs.Laying.{HaveRoom}
 use Rattle.own_rows.specs.OwnTables.{AreRowsOf}
 use Rattle.tier_statements.proofs.JudgeLaws.{fits_now, laid_more, none_laid, room_now, table_there}
-use Rattle.table_state.specs.declared.operation.Op.{Op}
 use Rattle.own_rows.specs.Overlays.{overlaid}
 use Rattle.cache_tier.specs.Shown.{all_over}
 use Rattle.statement_uses.specs.Uses.{roots_of_ops, roots_of_row}

@@ -1,6 +1,5 @@
 -- What is left of the keys makes of the store what all make of the old one.
 use Rattle.std.proofs.Common.{◌≡◌, drop}
-use Rattle.instances.specs.Views.{kept_at}
 use Rattle.statement_uses.specs.Touching.{HaveRows, newest_by, roomless, touched_by}
 use Rattle.statement_uses.proofs.touching.touch_all.Given as goal
 

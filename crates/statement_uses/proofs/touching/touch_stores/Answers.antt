@@ -1,4 +1,4 @@
-use Rattle.std.proofs.Common.{◌≡◌, ◌<◌, ◌≤◌, Some, [], ap, arith, length, option_copied, slice_get, subst, sym, unwrap_or, ◌∙◌}
+use Rattle.std.proofs.Common.{◌≡◌, ◌<◌, Some, [], ap, arith, length, option_copied, slice_get, subst, sym, unwrap_or, ◌∙◌}
 use Rattle.statement_uses.specs.Touching.{HaveRows, newest_by, roomless, touched_by}
 use Rattle.statement_uses.specs.Uses.{keys_at}
 use Rattle.statement_uses.proofs.TouchLaws.{all_newest, all_touched, bare_long, get_is, got_item, one_done, set_long, set_other}

@@ -1,4 +1,4 @@
-use Rattle.std.proofs.Common.{◌≡◌, ◌≤◌, ◌<◌, ◌∙◌, ap, arith, length, refl, subst, sym}
+use Rattle.std.proofs.Common.{◌≡◌, ◌∙◌, ap, arith, length, sym}
 use Rattle.std.specs.FinMap.{values}
 use Rattle.stored_tier.proofs.FillSteps.{all_rows, begun_rows, one_row, put_long, values_long}
 use Rattle.stored_tier.proofs.filling.fill_table.Goals as goal

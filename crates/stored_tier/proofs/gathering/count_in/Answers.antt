@@ -1,4 +1,4 @@
-use Rattle.std.proofs.Common.{◌≡◌, ◌≤◌, ◌<◌, ◌+◌, ◌∙◌, List, arith, filter, length, rules, sym, take}
+use Rattle.std.proofs.Common.{◌∙◌, List, arith, sym}
 use Rattle.std.specs.FinMap.{entries}
 use Rattle.row_types.specs.declared.value.Value.{Value}
 use Rattle.stored_tier.specs.Choosing.{matches_at}

@@ -1,4 +1,4 @@
-use Rattle.std.proofs.Common.{None, [], subst, sym}
+use Rattle.std.proofs.Common.{None, [], subst}
 use Rattle.cache_tier.specs.JournalSteps.{Flushes}
 use Rattle.tier_journal.specs.KeptOver.{KeepsOver}
 use Rattle.tier_journal.proofs.FlushLaws.{failed_over, flushed_over, flushes_nothing, still_over}

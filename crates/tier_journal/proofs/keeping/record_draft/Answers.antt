@@ -1,4 +1,4 @@
-use Rattle.std.proofs.Common.{None, Some, [], ◌∷◌, ◌∙◌, subst, sym, refl, true, false}
+use Rattle.std.proofs.Common.{None, Some, subst, sym, true, false}
 use Rattle.cache_tier.specs.JournalSteps.{Records}
 use Rattle.tier_journal.specs.KeptOver.{IsWrittenOver}
 use Rattle.tier_journal.proofs.FlushLaws.{fits_failed, fits_flushed, fits_noted, unkept_recorded}

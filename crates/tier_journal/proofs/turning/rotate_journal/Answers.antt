@@ -1,4 +1,4 @@
-use Rattle.std.proofs.Common.{◌∙◌, Err, Some, ap, inl, inr, subst}
+use Rattle.std.proofs.Common.{◌∙◌, Err, ap, inl, inr, subst}
 use Rattle.tier_journal.specs.KeptOver.{KeepsOver}
 use Rattle.cache_tier.specs.Rotations.{slot_entries}
 use Rattle.tier_journal.proofs.TurnLaws.{broken_over, same_over, turned_over, unturned_over}

@@ -1,7 +1,11 @@
 use Rattle.std.proofs.Common.{◌∙◌, inr, refl, subst}
 use Rattle.tier_journal.specs.declared.opening.Found.{Found}
 use Rattle.tier_journal.specs.Opening.{Finds}
+use Rattle.tier_opening.proofs.LeftLaws.{disk_rests}
 use Rattle.tier_opening.proofs.opening.found_journal.Goals as goal
+
+pub returns-then-schema-clause-crash : goal.returns-then-schema-clause-crash
+returns-then-schema-clause-crash g c = disk_rests g.P.Disk.state g.P.Disk.possible c.args.site.now
 
 pub returns-then-version-ne2-clause-cause : goal.returns-then-version-ne2-clause-cause
 returns-then-version-ne2-clause-cause g c = record {
@@ -21,3 +25,18 @@ returns-then-version-ne2-clause-cause g c = record {
         }),
       );
 }
+
+pub returns-then-version-ne2-clause-crash : goal.returns-then-version-ne2-clause-crash
+returns-then-version-ne2-clause-crash g c = c.open.ensures.crash
+
+pub returns-in-Err-Disk-clause-crash : goal.returns-in-Err-Disk-clause-crash
+returns-in-Err-Disk-clause-crash g c = c.open.ensures.crash
+
+pub returns-in-Err-Memory-clause-crash : goal.returns-in-Err-Memory-clause-crash
+returns-in-Err-Memory-clause-crash g c = c.open.ensures.crash
+
+pub returns-in-Err-clause-crash : goal.returns-in-Err-clause-crash
+returns-in-Err-clause-crash g c = c.open.ensures.crash
+
+pub returns-else-version-ne2-clause-crash : goal.returns-else-version-ne2-clause-crash
+returns-else-version-ne2-clause-crash g c = c.open.ensures.crash

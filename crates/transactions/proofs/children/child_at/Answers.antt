@@ -1,8 +1,8 @@
 use Rattle.std.proofs.Common.{◌≡◌, ◌+◌, Option, Result, Ok, Err, IfOk, drop, slice_get, unwrap_or, rules}
 use Rattle.std.specs.FinMap as fm
 use Rattle.std.specs.Option.{option_or}
-use Rattle.row_types.specs.declared.rule.Detail.{Detail}
-use Rattle.table_state.specs.Refusals.{child_of, first_child}
+use Rattle.evaluator.specs.row_types.specs.declared.rule.Detail.{Detail}
+use Rattle.evaluator.specs.table_state.specs.Refusals.{child_of, first_child}
 use Rattle.transactions.proofs.ChildLaws.{child_here}
 use Rattle.transactions.proofs.children.child_at.Goals as goal
 

@@ -1,6 +1,6 @@
 use Rattle.std.proofs.Common.{◌≡◌, true, false, rules}
-use Rattle.table_state.specs.Independence.{refers_to}
-use Rattle.table_state.specs.Tables.{table_at}
+use Rattle.evaluator.specs.table_state.specs.Independence.{refers_to}
+use Rattle.evaluator.specs.table_state.specs.Tables.{table_at}
 use Rattle.evaluator.proofs.WriteLaws.{keyed_at}
 use Rattle.transactions.proofs.ChildLaws.{no_child, no_reference, the_child}
 use Rattle.transactions.proofs.children.child_of.Goals as goal

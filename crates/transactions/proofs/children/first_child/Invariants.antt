@@ -1,6 +1,6 @@
 -- No table so far has a child.
 use Rattle.std.proofs.Common.{◌≡◌, drop}
-use Rattle.table_state.specs.Refusals.{first_child}
+use Rattle.evaluator.specs.table_state.specs.Refusals.{first_child}
 use Rattle.transactions.proofs.children.first_child.Given as goal
 
 abbrev pub invariant-loop-place : goal.invariant-loop-place

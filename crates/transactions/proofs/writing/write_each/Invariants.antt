@@ -1,8 +1,8 @@
 -- The writes so far are done, and the log takes them back.
-use Rattle.tier_base.specs.Limits.{greatest}
-use Rattle.tier_base.specs.declared.limit.Limit.TheVariants.{Operations}
-use Rattle.table_state.specs.Changes.{LeadsBack}
-use Rattle.table_state.specs.Tables.{TableState}
+use Rattle.evaluator.specs.tier_base.specs.Limits.{greatest}
+use Rattle.evaluator.specs.tier_base.specs.declared.limit.Limit.TheVariants.{Operations}
+use Rattle.evaluator.specs.table_state.specs.Changes.{LeadsBack}
+use Rattle.evaluator.specs.table_state.specs.Tables.{TableState}
 use Rattle.transactions.proofs.TransactionLaws.{DoneBefore}
 use Rattle.transactions.proofs.writing.write_each.Given as goal
 

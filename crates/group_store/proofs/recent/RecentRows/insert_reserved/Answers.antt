@@ -1,7 +1,7 @@
 use Rattle.std.proofs.Common.{◌<◌, ◌++◌, [], ◌∷◌, nat_eq, min, cond, ap, sym, subst, ◌∙◌, arith}
 use Rattle.std.specs.List.{list_any}
 use Rattle.std.specs.FinMap as fm
-use Rattle.indexed_rows.specs.Rows.{key_of}
+use Rattle.slot_rows.specs.indexed_rows.specs.Rows.{key_of}
 use Rattle.group_store.specs.Recent.{AreOnce, entered_last, keys_of, orders_for}
 use Rattle.group_store.proofs.OnceLaws.{once_more}
 use Rattle.group_store.proofs.RecentLaws.{not_recent, more_keys, more_recent, sure}

@@ -1,8 +1,8 @@
 use Rattle.std.proofs.Common.{ap, sym, ◌∙◌}
 use Rattle.std.specs.Option.{option_and_then, option_copied, option_map}
 use Rattle.std.specs.FinMap as fm
-use Rattle.indexed_rows.specs.Rows.{is_same}
-use Rattle.recency.specs.Rings.{next_key}
+use Rattle.slot_rows.specs.indexed_rows.specs.Rows.{is_same}
+use Rattle.cache_store.specs.recency.specs.Rings.{next_key}
 use Rattle.group_store.specs.Recent.{key_in}
 use Rattle.group_store.proofs.RecentLaws.{next_is, next_row, no_next}
 use Rattle.group_store.proofs.recent.RecentRows.newer.Goals as goal

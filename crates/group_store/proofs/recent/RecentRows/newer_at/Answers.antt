@@ -1,8 +1,8 @@
 use Rattle.std.proofs.Common.{None, sym, subst}
 use Rattle.std.specs.FinMap as fm
-use Rattle.recency.specs.Rings.{next_key}
-use Rattle.indexed_rows.specs.Places.{IsKeyAt}
-use Rattle.indexed_rows.specs.Rows.{is_same}
+use Rattle.cache_store.specs.recency.specs.Rings.{next_key}
+use Rattle.slot_rows.specs.indexed_rows.specs.Places.{IsKeyAt}
+use Rattle.slot_rows.specs.indexed_rows.specs.Rows.{is_same}
 use Rattle.group_store.specs.Recent.{StandsAt}
 use Rattle.group_store.proofs.ByUseLaws.{next_stands, none_next}
 use Rattle.group_store.proofs.recent.RecentRows.newer_at.Goals as goal

@@ -1,5 +1,5 @@
 use Rattle.std.proofs.Common.{subst}
-use Rattle.indexed_rows.specs.Rows.{key_of}
+use Rattle.slot_rows.specs.indexed_rows.specs.Rows.{key_of}
 use Rattle.group_store.specs.Recent.{IsRowPlace}
 use Rattle.group_store.proofs.RecentLaws.{place_is}
 use Rattle.group_store.proofs.recent.RecentRows.place_of.Goals as goal

@@ -1,8 +1,8 @@
 use Rattle.std.proofs.Common.{nat_eq, ap, sym, subst, ◌∙◌}
 use Rattle.std.specs.List.{list_any}
 use Rattle.std.specs.FinMap as fm
-use Rattle.indexed_rows.specs.Rows.{is_same}
-use Rattle.recency.specs.Rings.{keys_without}
+use Rattle.slot_rows.specs.indexed_rows.specs.Rows.{is_same}
+use Rattle.cache_store.specs.recency.specs.Rings.{keys_without}
 use Rattle.group_store.specs.Recent.{AreOnce, keys_of, orders_for}
 use Rattle.group_store.proofs.OnceLaws.{once_less}
 use Rattle.group_store.proofs.RecentLaws.{left_keys, left_recent, none_of, not_left, without_none}

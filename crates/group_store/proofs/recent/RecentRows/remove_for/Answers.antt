@@ -1,8 +1,8 @@
 use Rattle.std.proofs.Common.{◌<◌, ap, sym, subst, ◌∙◌}
 use Rattle.std.specs.FinMap as fm
-use Rattle.indexed_rows.specs.Places.{IsKeyAt}
-use Rattle.indexed_rows.specs.Rows.{is_same, key_of}
-use Rattle.recency.specs.Rings.{keys_without}
+use Rattle.slot_rows.specs.indexed_rows.specs.Places.{IsKeyAt}
+use Rattle.slot_rows.specs.indexed_rows.specs.Rows.{is_same, key_of}
+use Rattle.cache_store.specs.recency.specs.Rings.{keys_without}
 use Rattle.group_store.proofs.RecentLaws.{not_left, spot_within, without_none}
 use Rattle.group_store.proofs.recent.RecentRows.remove_for.Goals as goal
 

@@ -1,8 +1,8 @@
 use Rattle.std.proofs.Common.{◌++◌, [], ◌∷◌, nat_eq, ap, sym, subst, ◌∙◌}
 use Rattle.std.specs.List.{list_any}
 use Rattle.std.specs.FinMap as fm
-use Rattle.indexed_rows.specs.Rows.{is_same}
-use Rattle.recency.specs.Rings.{keys_without, touched}
+use Rattle.slot_rows.specs.indexed_rows.specs.Rows.{is_same}
+use Rattle.cache_store.specs.recency.specs.Rings.{keys_without, touched}
 use Rattle.group_store.specs.Recent.{AreOnce, keys_of}
 use Rattle.group_store.proofs.OnceLaws.{newest_key, once_touched}
 use Rattle.group_store.proofs.RecentLaws.{touched_keys, touched_recent, untouched}

@@ -1,6 +1,6 @@
 use Rattle.std.proofs.Common.{◌∙◌, Some, ap, sym, arith}
 use Rattle.std.proofs.lemmas.Option.{slice_get-get_or}
-use Rattle.indexed_rows.proofs.EntryLaws.{read}
+use Rattle.slot_rows.specs.indexed_rows.proofs.EntryLaws.{read}
 use Rattle.group_store.proofs.HomeLaws.{its_home, none_shown, shows_table, store_there}
 use Rattle.group_store.proofs.shown.Shown.kept.Goals as goal
 

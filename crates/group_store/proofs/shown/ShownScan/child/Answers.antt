@@ -1,6 +1,6 @@
 use Rattle.std.proofs.Common.{slice_get}
-use Rattle.table_state.specs.Children.{refers_to}
-use Rattle.table_state.specs.Tables.{table_at}
+use Rattle.cache_store.specs.table_state.specs.Children.{refers_to}
+use Rattle.cache_store.specs.table_state.specs.Tables.{table_at}
 use Rattle.group_store.specs.Shown.{shown_by}
 use Rattle.group_store.proofs.HomeLaws.{no_place_at}
 use Rattle.group_store.proofs.shown.ShownScan.child.Goals as goal

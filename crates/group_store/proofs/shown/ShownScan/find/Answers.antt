@@ -1,6 +1,6 @@
 use Rattle.std.proofs.Common.{ap, sym, ◌∙◌}
 use Rattle.std.specs.FinMap as fm
-use Rattle.row_types.specs.Order.{key_order}
+use Rattle.slot_rows.specs.row_types.specs.Order.{key_order}
 use Rattle.group_store.proofs.shown.ShownScan.find.Goals as goal
 
 pub returns-in-None : goal.returns-in-None

@@ -1,4 +1,4 @@
-use Rattle.table_state.specs.Tables.{table_at}
+use Rattle.cache_store.specs.table_state.specs.Tables.{table_at}
 use Rattle.group_store.specs.Shown.{shown_by}
 use Rattle.group_store.proofs.HomeLaws.{no_rows_at}
 use Rattle.group_store.proofs.shown.ShownScan.row.Goals as goal

@@ -1,8 +1,8 @@
 use Rattle.std.proofs.Common.{◌≡◌, ◌≤◌, ◌++◌, [], ◌∷◌, length, map, slice_get, List, refl, sym, ap, subst, ◌∙◌, arith}
 use Rattle.std.proofs.lemmas.List.{length-map}
 use Rattle.std.specs.FinMap as fm
-use Rattle.row_types.specs.declared.value.Value.{Value}
-use Rattle.row_types.specs.Order.{key_order}
+use Rattle.slot_rows.specs.row_types.specs.declared.value.Value.{Value}
+use Rattle.slot_rows.specs.row_types.specs.Order.{key_order}
 use Rattle.group_store.specs.Trees.{key_at}
 use Rattle.group_store.specs.Joined.{IsJoined, layer_of}
 use Rattle.group_store.specs.declared.tree_rows.ChildRows.{ChildRows}

@@ -1,8 +1,8 @@
 use Rattle.std.proofs.Common.{◌+◌, drop, map, slice_get, refl, sym, ap, ◌∙◌, arith}
 use Rattle.std.proofs.lemmas.List.{length-map}
 use Rattle.std.specs.FinMap as fm
-use Rattle.indexed_rows.proofs.MapLaws.{slice_get_map}
-use Rattle.instances.specs.Views.{kept_at}
+use Rattle.slot_rows.specs.indexed_rows.proofs.MapLaws.{slice_get_map}
+use Rattle.cache_store.specs.instances.specs.Views.{kept_at}
 use Rattle.group_store.specs.Entering.{entered}
 use Rattle.group_store.specs.declared.tree_rows.ChildRows.{ChildRows}
 use Rattle.group_store.proofs.CommitLaws.{HasTables, among_at, committed_keys, entered_there, next_of, none_before, none_behind, touched_all}

@@ -1,5 +1,5 @@
 use Rattle.std.proofs.Common.{ap, sym, ◌∙◌}
-use Rattle.indexed_rows.specs.Rows.{key_of, put_in}
+use Rattle.slot_rows.specs.indexed_rows.specs.Rows.{key_of, put_in}
 use Rattle.group_store.specs.Hiding.{hidden_with}
 use Rattle.group_store.proofs.store.Store.hide_at.Goals as goal
 

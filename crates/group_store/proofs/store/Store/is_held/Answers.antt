@@ -1,7 +1,7 @@
 use Rattle.std.proofs.Common.{◌≡◌, sym, subst, arith}
 use Rattle.std.specs.FinMap as fm
-use Rattle.indexed_rows.specs.Places.{IsKeyAt}
-use Rattle.instances.specs.Views.{kept_at}
+use Rattle.slot_rows.specs.indexed_rows.specs.Places.{IsKeyAt}
+use Rattle.cache_store.specs.instances.specs.Views.{kept_at}
 use Rattle.group_store.specs.Held.{held_at, is_instance_held}
 use Rattle.group_store.specs.Joined.{layers_of, tables_of}
 use Rattle.group_store.proofs.PassingLaws.{told}

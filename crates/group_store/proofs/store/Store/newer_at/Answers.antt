@@ -1,9 +1,9 @@
 use Rattle.std.proofs.Common.{◌≤◌, sym, subst, arith}
 use Rattle.std.specs.FinMap as fm
-use Rattle.recency.specs.Rings.{next_key}
-use Rattle.indexed_rows.specs.Places.{IsKeyAt}
-use Rattle.indexed_rows.specs.Rows.{is_same}
-use Rattle.instances.specs.Views.{kept_at}
+use Rattle.cache_store.specs.recency.specs.Rings.{next_key}
+use Rattle.slot_rows.specs.indexed_rows.specs.Places.{IsKeyAt}
+use Rattle.slot_rows.specs.indexed_rows.specs.Rows.{is_same}
+use Rattle.cache_store.specs.instances.specs.Views.{kept_at}
 use Rattle.group_store.specs.Recent.{StandsAt}
 use Rattle.group_store.proofs.RecentLaws.{spot_within}
 use Rattle.group_store.proofs.store.Store.newer_at.Goals as goal

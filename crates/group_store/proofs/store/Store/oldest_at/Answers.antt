@@ -1,5 +1,5 @@
 use Rattle.std.proofs.Common.{slice_get, subst}
-use Rattle.instances.specs.Views.{kept_at}
+use Rattle.cache_store.specs.instances.specs.Views.{kept_at}
 use Rattle.group_store.specs.Recent.{StandsAt}
 use Rattle.group_store.proofs.store.Store.oldest_at.Goals as goal
 

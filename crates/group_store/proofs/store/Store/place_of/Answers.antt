@@ -1,7 +1,7 @@
 use Rattle.std.proofs.Common.{◌≡◌, ◌+◌, suc, Bool, true, false, cond, Some, map, position, refl, sym, ap, ◌∙◌, eqb-true, arith}
 use Rattle.std.specs.Option.{option_map}
-use Rattle.tier_base.specs.declared.number.TableId.{TableId}
-use Rattle.instances.specs.Trees.{same_table}
+use Rattle.slot_rows.specs.tier_base.specs.declared.number.TableId.{TableId}
+use Rattle.cache_store.specs.instances.specs.Trees.{same_table}
 use Rattle.group_store.specs.Joined.{layer_of}
 use Rattle.group_store.specs.Stores.{place_in}
 use Rattle.group_store.proofs.StoreLaws.{place_among}

@@ -1,6 +1,6 @@
 use Rattle.std.proofs.Common.{◌≡◌, [], ◌∷◌, List, length, remove, get_or, ap, subst, ◌∙◌, arith}
-use Rattle.row_types.specs.declared.value.Value.{Value}
-use Rattle.indexed_rows.specs.Rows.{key_of}
+use Rattle.slot_rows.specs.row_types.specs.declared.value.Value.{Value}
+use Rattle.slot_rows.specs.indexed_rows.specs.Rows.{key_of}
 use Rattle.group_store.specs.Stores.{SameButSpare, count_all, put_tables, renewed_store}
 use Rattle.group_store.proofs.RenewLaws.{count_first, length_first, renewed_all, some_tables, split_first}
 use Rattle.group_store.proofs.store.Store.renew_instance.Goals as goal

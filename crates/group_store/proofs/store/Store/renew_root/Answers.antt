@@ -1,7 +1,7 @@
 use Rattle.std.proofs.Common.{◌≡◌, ◌<◌, ◌≤◌, ◌+◌, true, [], ◌∷◌, sym, subst, arith}
 use Rattle.std.specs.FinMap as fm
-use Rattle.indexed_rows.specs.Rows.{key_of}
-use Rattle.instances.specs.Views.{kept_at}
+use Rattle.slot_rows.specs.indexed_rows.specs.Rows.{key_of}
+use Rattle.cache_store.specs.instances.specs.Views.{kept_at}
 use Rattle.group_store.specs.Joined.{IsBared, least_spare}
 use Rattle.group_store.specs.Stores.{SameButSpare, renewed_store}
 use Rattle.group_store.proofs.RenewLaws.{renewed_root, store_of}

@@ -1,7 +1,7 @@
 use Rattle.std.proofs.Common.{◌≤◌, refl, sym, subst, arith}
 use Rattle.std.specs.FinMap as fm
-use Rattle.indexed_rows.specs.Places.{IsKeyAt}
-use Rattle.instances.specs.Views.{kept_at}
+use Rattle.slot_rows.specs.indexed_rows.specs.Places.{IsKeyAt}
+use Rattle.cache_store.specs.instances.specs.Views.{kept_at}
 use Rattle.group_store.specs.ByUse.{TakesInstance}
 use Rattle.group_store.proofs.RecentLaws.{spot_within}
 use Rattle.group_store.proofs.RenewLaws.{store_of}

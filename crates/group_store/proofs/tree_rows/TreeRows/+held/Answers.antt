@@ -1,10 +1,10 @@
 use Rattle.std.proofs.Common.{◌≡◌, ◌+◌, suc, length, List, None, Some, is_some, ap, sym, subst, ◌∙◌, arith}
 use Rattle.std.proofs.lemmas.List.{length-map}
 use Rattle.std.specs.FinMap as fm
-use Rattle.row_types.specs.declared.value.Value.{Value}
-use Rattle.indexed_rows.specs.Places.{IsKeyAt}
-use Rattle.indexed_rows.specs.Rows.{key_of}
-use Rattle.instances.specs.Views.{kept_at}
+use Rattle.slot_rows.specs.row_types.specs.declared.value.Value.{Value}
+use Rattle.slot_rows.specs.indexed_rows.specs.Places.{IsKeyAt}
+use Rattle.slot_rows.specs.indexed_rows.specs.Rows.{key_of}
+use Rattle.cache_store.specs.instances.specs.Views.{kept_at}
 use Rattle.slot_rows.specs.Orders.{place_from}
 use Rattle.group_store.specs.Held.{held_at, id_at}
 use Rattle.group_store.specs.Joined.{layer_of, layers_of, places_at, tables_of}

@@ -1,10 +1,10 @@
 -- No row that is held leads to the row by way of the child tables so far, and by way of the rows of one of them so far.
 use Rattle.std.proofs.Common.{◌≤◌, ◌<◌, ◌+◌, ◌-◌, ◌*◌, suc, ℕ, List, length}
 use Rattle.std.specs.FinMap as fm
-use Rattle.row_types.specs.declared.value.Value.{Value}
-use Rattle.indexed_rows.specs.Places.{IsKeyAt}
-use Rattle.indexed_rows.specs.Rows.{key_of}
-use Rattle.instances.specs.Views.{kept_at}
+use Rattle.slot_rows.specs.row_types.specs.declared.value.Value.{Value}
+use Rattle.slot_rows.specs.indexed_rows.specs.Places.{IsKeyAt}
+use Rattle.slot_rows.specs.indexed_rows.specs.Rows.{key_of}
+use Rattle.cache_store.specs.instances.specs.Views.{kept_at}
 use Rattle.group_store.specs.Held.{held_at}
 use Rattle.group_store.specs.Joined.{layers_of, places_at, tables_of}
 use Rattle.group_store.specs.Passing.{HasNoneBy, HasNonePassing, IsChildKey}

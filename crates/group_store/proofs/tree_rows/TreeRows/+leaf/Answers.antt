@@ -1,5 +1,5 @@
 use Rattle.std.proofs.Common.{ap, is_some, arith}
-use Rattle.indexed_rows.specs.Rows.{key_of}
+use Rattle.slot_rows.specs.indexed_rows.specs.Rows.{key_of}
 use Rattle.group_store.specs.Joined.{places_at}
 use Rattle.group_store.proofs.JoinedLaws.{child_behind, child_found, leaf_itself, leaf_through}
 use Rattle.group_store.proofs.tree_rows.TreeRows.+leaf.Goals as goal

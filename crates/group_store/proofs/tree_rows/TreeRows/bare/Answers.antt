@@ -1,5 +1,5 @@
 use Rattle.std.proofs.Common.{inl, refl, arith}
-use Rattle.instances.specs.Views.{kept_at}
+use Rattle.cache_store.specs.instances.specs.Views.{kept_at}
 use Rattle.group_store.specs.Joined.{tables_of}
 use Rattle.group_store.proofs.RecentLaws.{spot_within}
 use Rattle.group_store.proofs.tree_rows.TreeRows.bare.Goals as goal

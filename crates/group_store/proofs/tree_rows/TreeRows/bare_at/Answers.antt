@@ -1,9 +1,9 @@
 use Rattle.std.proofs.Common.{◌<◌, length, inr, refl, ap, sym, subst, ◌∙◌, arith}
 use Rattle.std.proofs.lemmas.List.{length-map}
 use Rattle.std.specs.FinMap as fm
-use Rattle.indexed_rows.specs.Places.{IsKeyAt}
-use Rattle.indexed_rows.proofs.MapLaws.{has_key}
-use Rattle.instances.specs.Views.{kept_at}
+use Rattle.slot_rows.specs.indexed_rows.specs.Places.{IsKeyAt}
+use Rattle.slot_rows.specs.indexed_rows.proofs.MapLaws.{has_key}
+use Rattle.cache_store.specs.instances.specs.Views.{kept_at}
 use Rattle.group_store.specs.Trees.{cut_from}
 use Rattle.group_store.specs.Joined.{layer_of, layers_of, tables_of}
 use Rattle.group_store.proofs.JoinedLaws.{long_tables}

@@ -1,6 +1,6 @@
 use Rattle.std.proofs.Common.{◌≡◌, ◌<◌, ◌+◌, suc, ◌≤◌, length, get_or, slice_get, Some, None, inl, inr, ap, sym, subst, ◌∙◌, arith}
 use Rattle.std.proofs.lemmas.Bool.{cases_lt}
-use Rattle.indexed_rows.specs.Rows.{key_of}
+use Rattle.slot_rows.specs.indexed_rows.specs.Rows.{key_of}
 use Rattle.group_store.specs.Trees.{IsChild}
 use Rattle.group_store.specs.Joined.{IsRowOf, layers_of, places_at, tables_of}
 use Rattle.group_store.proofs.JoinedLaws.{child_is, item_there, none_is}

@@ -1,7 +1,7 @@
 use Rattle.std.proofs.Common.{◌≡◌, ◌≢◌, ℕ, ◌<◌, List, Some, slice_get}
 use Rattle.std.specs.FinMap as fm
-use Rattle.row_types.specs.declared.value.Value.{Value}
-use Rattle.indexed_rows.specs.Rows.{key_of}
+use Rattle.slot_rows.specs.row_types.specs.declared.value.Value.{Value}
+use Rattle.slot_rows.specs.indexed_rows.specs.Rows.{key_of}
 use Rattle.group_store.specs.declared.tree_rows.ChildRows.{ChildRows}
 use Rattle.group_store.proofs.tree_rows.TreeRows.child_of.Given as goal
 

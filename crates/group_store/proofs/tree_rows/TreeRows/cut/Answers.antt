@@ -1,8 +1,8 @@
 use Rattle.std.proofs.Common.{◌<◌, length, nat_eq, cond, ap, sym, ◌∙◌, arith}
 use Rattle.std.proofs.lemmas.List.{length-map}
 use Rattle.std.specs.FinMap as fm
-use Rattle.indexed_rows.specs.Rows.{is_same}
-use Rattle.recency.specs.Rings.{keys_without}
+use Rattle.slot_rows.specs.indexed_rows.specs.Rows.{is_same}
+use Rattle.cache_store.specs.recency.specs.Rings.{keys_without}
 use Rattle.group_store.specs.Joined.{layer_of, layers_of, tables_of}
 use Rattle.group_store.proofs.JoinedLaws.{long_tables}
 use Rattle.group_store.proofs.TreeLaws.{cut_done}

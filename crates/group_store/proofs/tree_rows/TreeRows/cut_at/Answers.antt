@@ -1,8 +1,8 @@
 use Rattle.std.proofs.Common.{◌<◌, map, ap, sym, subst, ◌∙◌, ◌∷◌, arith}
 use Rattle.std.specs.FinMap as fm
-use Rattle.indexed_rows.specs.Places.{IsKeyAt}
-use Rattle.indexed_rows.specs.Rows.{is_same}
-use Rattle.recency.specs.Rings.{keys_without}
+use Rattle.slot_rows.specs.indexed_rows.specs.Places.{IsKeyAt}
+use Rattle.slot_rows.specs.indexed_rows.specs.Rows.{is_same}
+use Rattle.cache_store.specs.recency.specs.Rings.{keys_without}
 use Rattle.group_store.specs.declared.tree_rows.ChildRows.{ChildRows}
 use Rattle.group_store.specs.Joined.{layers_of, tables_of}
 use Rattle.group_store.proofs.JoinedLaws.{keeps_children, least_root}

@@ -1,6 +1,6 @@
 use Rattle.std.proofs.Common.{◌<◌, ◌-◌, length, unwrap_or, ap, sym, ◌∙◌, arith}
 use Rattle.std.specs.Option.{option_map}
-use Rattle.indexed_rows.proofs.MapLaws.{slice_get_map}
+use Rattle.slot_rows.specs.indexed_rows.proofs.MapLaws.{slice_get_map}
 use Rattle.group_store.specs.Trees.{Layer}
 use Rattle.group_store.specs.Held.{id_at}
 use Rattle.group_store.specs.Joined.{layer_of, layers_of}

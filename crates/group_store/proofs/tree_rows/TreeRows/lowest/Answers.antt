@@ -1,5 +1,5 @@
 use Rattle.std.proofs.Common.{◌≡◌, true, false, ap, is_some, sym, subst, ◌∙◌, arith}
-use Rattle.instances.specs.Views.{kept_at}
+use Rattle.cache_store.specs.instances.specs.Views.{kept_at}
 use Rattle.group_store.specs.Trees.{IsChild, IsChildless}
 use Rattle.group_store.specs.Joined.{layers_of, places_at, tables_of}
 use Rattle.group_store.proofs.ByUseLaws.{always_row, key_of_row}

@@ -1,5 +1,5 @@
 use Rattle.std.proofs.Common.{◌<◌, ◌-◌, length, ap, sym, ◌∙◌, arith}
-use Rattle.indexed_rows.specs.Rows.{key_of, put_over}
+use Rattle.slot_rows.specs.indexed_rows.specs.Rows.{key_of, put_over}
 use Rattle.cache_store.specs.Operating.{change_at}
 use Rattle.group_store.specs.declared.tree_rows.ChildRows.{ChildRows}
 use Rattle.group_store.specs.Joined.{tables_of}

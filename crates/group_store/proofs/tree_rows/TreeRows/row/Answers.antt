@@ -1,6 +1,6 @@
 use Rattle.std.proofs.Common.{◌<◌, ◌-◌, length, slice_get, ap, sym, ◌∙◌, arith}
 use Rattle.std.specs.FinMap as fm
-use Rattle.instances.specs.Views.{kept_at}
+use Rattle.cache_store.specs.instances.specs.Views.{kept_at}
 use Rattle.group_store.specs.Joined.{tables_of}
 use Rattle.group_store.proofs.ChildLaws.{past_rows}
 use Rattle.group_store.proofs.JoinedLaws.{item_there, table_there}

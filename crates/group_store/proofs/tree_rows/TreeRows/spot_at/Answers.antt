@@ -1,5 +1,5 @@
 use Rattle.std.proofs.Common.{is_some, ap, sym, subst}
-use Rattle.instances.specs.Views.{kept_at}
+use Rattle.cache_store.specs.instances.specs.Views.{kept_at}
 use Rattle.group_store.specs.Recent.{IsRowPlace}
 use Rattle.group_store.specs.Joined.{tables_of}
 use Rattle.group_store.proofs.tree_rows.TreeRows.spot_at.Goals as goal

@@ -1,5 +1,5 @@
 use Rattle.std.proofs.Common.{◌<◌, ◌-◌, length, sym, subst, arith}
-use Rattle.indexed_rows.specs.Rows.{key_of}
+use Rattle.slot_rows.specs.indexed_rows.specs.Rows.{key_of}
 use Rattle.group_store.specs.Recent.{IsRowPlace}
 use Rattle.group_store.specs.Joined.{places_at}
 use Rattle.group_store.proofs.JoinedLaws.{item_there, places_there, table_there}

@@ -1,6 +1,6 @@
 use Rattle.std.proofs.Common.{◌<◌, ◌-◌, length, ap, sym, ◌∙◌, arith}
 use Rattle.std.specs.FinMap as fm
-use Rattle.indexed_rows.specs.Rows.{key_of}
+use Rattle.slot_rows.specs.indexed_rows.specs.Rows.{key_of}
 use Rattle.cache_store.specs.Operating.{change_at}
 use Rattle.group_store.specs.declared.tree_rows.ChildRows.{ChildRows}
 use Rattle.group_store.specs.Joined.{tables_of}

@@ -1,8 +1,8 @@
 -- What the session's operations leave; without a session nothing is over the tables.
 use Rattle.std.proofs.Common.{None, Some, [], sym, ap, subst, ◌∙◌, arith}
-use Rattle.own_rows.specs.OwnTables.{AreShown}
-use Rattle.own_rows.proofs.RowsLaws.{fits, rows_none}
-use Rattle.table_state.specs.Operations.{applied_all}
+use Rattle.session_state.specs.own_rows.specs.OwnTables.{AreShown}
+use Rattle.session_state.specs.own_rows.proofs.RowsLaws.{fits, rows_none}
+use Rattle.session_state.specs.table_state.specs.Operations.{applied_all}
 use Rattle.session_state.specs.Kept.{IsKept, seen_of}
 use Rattle.session_state.specs.Sessions.{has_id}
 use Rattle.open_sessions.proofs.LookupLaws.{found_all, ops_seen}

@@ -1,5 +1,5 @@
-use Rattle.std.proofs.Common.{None, Some, [], ap, ◌∙◌}
-use Rattle.table_state.specs.Footprints.{footprint_of, is_among}
+use Rattle.std.proofs.Common.{None, ap, ◌∙◌}
+use Rattle.session_state.specs.table_state.specs.Footprints.{footprint_of, is_among}
 use Rattle.session_state.specs.Kept.{IsKept, seen_of}
 use Rattle.session_state.specs.Sessions.{has_id}
 use Rattle.open_sessions.proofs.LookupLaws.{found_all, ops_seen}

@@ -2,7 +2,7 @@
 use Rattle.std.proofs.Common.{drop, sym, ap, ◌∙◌}
 use Rattle.std.specs.List.{slice_get}
 use Rattle.std.specs.FinMap.{values}
-use Rattle.indexed_rows.specs.Rows.{first_from}
+use Rattle.table_state.specs.indexed_rows.specs.Rows.{first_from}
 use Rattle.table_state.specs.Children.{refers_to}
 use Rattle.own_rows.proofs.OverlayLaws.{child_is, is_defined, other_table}
 use Rattle.own_rows.proofs.overlay.OverlayScan.child.Goals as goal

@@ -1,6 +1,6 @@
 use Rattle.std.proofs.Common.{T, sym, subst, ap, ◌∙◌}
 use Rattle.std.specs.FinMap as fm
-use Rattle.row_types.specs.Order.{key_order}
+use Rattle.table_state.specs.row_types.specs.Order.{key_order}
 use Rattle.pending_writes.specs.Noting.{IsIdleAt, StaysSince}
 use Rattle.pending_writes.proofs.NoteLaws.{idle_gone, idle_key, idle_within}
 use Rattle.pending_writes.proofs.MapLaws.{inside, removed, sorted_without}

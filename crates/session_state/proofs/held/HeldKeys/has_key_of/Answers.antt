@@ -1,6 +1,6 @@
 -- Where keys of the table are held.
 use Rattle.std.proofs.Common.{slice_get, ap, ◌∙◌}
-use Rattle.indexed_rows.specs.Rows.{key_of}
+use Rattle.own_rows.specs.indexed_rows.specs.Rows.{key_of}
 use Rattle.session_state.proofs.LockLaws.{no_keys, some_keys}
 use Rattle.session_state.proofs.held.HeldKeys.has_key_of.Goals as goal
 

@@ -1,6 +1,6 @@
 -- All memory is taken first.
 use Rattle.std.proofs.Common.{arith, ◌+◌, ◌++◌, length, map, sym, ap, subst, ◌∙◌}
-use Rattle.table_state.specs.Footprints.{footprint_of}
+use Rattle.own_rows.specs.table_state.specs.Footprints.{footprint_of}
 use Rattle.own_rows.specs.Laying.{AreStepsOf, HaveRoom}
 use Rattle.own_rows.proofs.StepLaws.{as_many, steps_ready}
 use Rattle.session_state.specs.Holding.{AreKeysOf, KeysHaveRoom, key_of_mark}

@@ -1,6 +1,6 @@
 use Rattle.std.proofs.Common.{ap, subst, ◌∙◌}
 use Rattle.std.specs.List.Sorted.{IsBinarySearchResult}
-use Rattle.row_types.specs.Order.{key_order}
+use Rattle.indexed_rows.specs.row_types.specs.Order.{key_order}
 use Rattle.slot_rows.specs.Leads.{lead_first, lead_of}
 use Rattle.indexed_rows.specs.Rows.{key_of}
 use Rattle.slot_rows.specs.Slots.{row_in}

@@ -1,4 +1,4 @@
-use Rattle.std.proofs.Common.{◌<◌, ◌^◌, length, refl, rules}
+use Rattle.std.proofs.Common.{refl}
 use Rattle.tier_journal.proofs.DraftLaws.{drafts, if_ok}
 use Rattle.tier_journal.proofs.draft.Draft.of_commit.Goals as goal
 

@@ -1,4 +1,4 @@
-use Rattle.std.proofs.Common.{◌<◌, ◌^◌, length, refl, rules}
+use Rattle.std.proofs.Common.{◌<◌, length, rules}
 use Rattle.tier_journal.proofs.DraftLaws.{drafts, if_ok}
 use Rattle.tier_journal.proofs.draft.Draft.of_state.Goals as goal
 

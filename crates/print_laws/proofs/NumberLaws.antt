@@ -6,9 +6,9 @@ use Rattle.std.specs.Fmt.{decimal}
 use Rattle.std.specs.List.{list_all}
 use Rattle.std.specs.Char.{digit_value, is_ascii_digit}
 use Rattle.std.specs.Str.Parse.{digits_value, digits_value_after}
-use Rattle.row_types.proofs.Digits.{numerals}
-use Rattle.sql_grammar.proofs.Lists.{and_left, and_right}
-use Rattle.sql_phrases.specs.Reading.{capped, number_of, number_with}
+use Rattle.sql_print.specs.row_types.proofs.Digits.{numerals}
+use Rattle.sql_print.specs.sql_grammar.proofs.Lists.{and_left, and_right}
+use Rattle.sql_print.specs.sql_phrases.specs.Reading.{capped, number_of, number_with}
 use Rattle.print_laws.proofs.Literals.{IsDigits}
 
 -- the value with further digits is no less
