@@ -99,6 +99,8 @@ for ((round = 1; round <= rounds; round++)); do
     printf 's1: OPEN DURABLE 1\n'
     for ((i = 1; i <= 20000; i++)); do printf 's1: INSERT INTO A VALUES (%s, %s)\ns1: COMMIT\n' $((kept + i)) "$round"; done
   } >lines
+  # (a run that is killed before it began would leave the replies of the round before)
+  : >replies
   "$program" run <lines >replies &
   sleep "0.$((RANDOM % 4))$((RANDOM % 10))"
   kill -9 $! 2>/dev/null
