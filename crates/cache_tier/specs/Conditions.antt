@@ -13,7 +13,7 @@ use Rattle.row_types.specs.declared.column.Column.{Column}
 use Rattle.indexed_rows.specs.Rows.{Table}
 use Rattle.table_defs.specs.declared.definition.TableDef.{TableDef}
 use Rattle.table_state.specs.Tables.{TableState}
-use Rattle.expressions.specs.declared.condition.Cond.{Cond}
+use Rattle.expressions.specs.Trees.{Cond}
 use Rattle.expressions.specs.Types.{family_of_type, agrees}
 use Rattle.evaluator.specs.Writes.{selects}
 use Rattle.instances.specs.Views.{is_true}

@@ -6,7 +6,7 @@ use Rattle.std.specs.Prelude.{if◌then◌else◌, ◌≡◌, ℕ, List, [], ◌
 use Rattle.std.specs.List.{filter}
 use Rattle.std.specs.FinMap.{keys}
 use Rattle.row_types.specs.declared.value.Value.{Value}
-use Rattle.expressions.specs.declared.condition.Cond.{Cond}
+use Rattle.expressions.specs.Trees.{Cond}
 use Rattle.indexed_rows.specs.Rows.{Table}
 use Rattle.instances.specs.Views.{kept_at}
 use Rattle.sql_query.specs.declared.literal.Literal.{Literal}

@@ -7,10 +7,6 @@ use Rattle.row_types.specs.declared.value.Value.{Value}
 use Rattle.tier_base.specs.declared.number.TableId.{TableId}
 use Rattle.table_defs.specs.declared.definition.TableDef.{TableDef}
 use Rattle.instances.specs.Trees.{are_sound, is_parent, is_place, is_sound, is_sound_child, place_of, same_table, table_of}
-use Rattle.expressions.specs.declared.expression.Expr.{Expr}
-use Rattle.expressions.specs.Conditions.{among, among_of, comparison, one_holds}
-use Rattle.expressions.specs.declared.condition.Comparator.TheVariants as is
-use Rattle.expressions.specs.Expressions.{eval}
 use Rattle.instances.specs.declared.tree.Child.{Child}
 use Rattle.instances.specs.declared.tree.Tree.{Tree}
 use Rattle.indexed_rows.specs.Rows.{Table, key_of}
@@ -19,7 +15,7 @@ use Rattle.instances.specs.Roots.{parent_key, root_of, root_within}
 use Rattle.instances.specs.Views.{child_rows, instance_of, kept_at, only, refers_to_one, root_rows, rows_where, with_children}
 use Rattle.table_state.specs.Tables.{TableState, table_at}
 use Rattle.stored_tier.proofs.FillSteps.{take_one, take_past}
-use Rattle.changed_sets.specs.Alike.{AreAlike, HaveSameValues, IsAlike, IsAlikeChild}
+use Rattle.changed_sets.specs.Alike.{AreAlike, IsAlike, IsAlikeChild}
 
 -- one child more
 pub alike_more : (children copies : List Child) (c d : Child) → AreAlike children copies → IsAlikeChild c d → AreAlike (children ++ c ∷ []) (copies ++ d ∷ [])
@@ -35,35 +31,6 @@ alike_next children copies next i c d are at is one =
 
 pub alike_all : (children copies : List Child) (i : ℕ) → length children ≤ i → AreAlike (take i children) copies → AreAlike children copies
 alike_all children copies i le are = subst (λ l. AreAlike l copies) (take_past children i le) are
-
--- lists of expressions
-
-pub same_more : (exprs copies : List Expr) (c d : Expr) → HaveSameValues exprs copies → eval d ≡ eval c → HaveSameValues (exprs ++ c ∷ []) (copies ++ d ∷ [])
-same_more [] [] c d are one = (one, tt)
-same_more [] (y ∷ copies) c d are one = absurd are
-same_more (x ∷ exprs) [] c d are one = absurd are
-same_more (x ∷ exprs) (y ∷ copies) c d are one = (are.0, same_more exprs copies c d are.1 one)
-
-pub same_next : (exprs copies next : List Expr) (i : ℕ) (c d : Expr) → HaveSameValues (take i exprs) copies → slice_get exprs i ≡ Some c → next ≡ copies ++ d ∷ [] → eval d ≡ eval c → HaveSameValues (take (i + 1) exprs) next
-same_next exprs copies next i c d are at is one =
-    subst (HaveSameValues (take (i + 1) exprs)) (sym is)
-    (subst (λ l. HaveSameValues l (copies ++ d ∷ [])) (sym (take_one exprs i c at)) (same_more (take i exprs) copies c d are one))
-
-pub same_all : (exprs copies : List Expr) (i : ℕ) → length exprs ≤ i → HaveSameValues (take i exprs) copies → HaveSameValues exprs copies
-same_all exprs copies i le are = subst (λ l. HaveSameValues l copies) (take_past exprs i le) are
-
-pub same_among : (exprs copies : List Expr) → HaveSameValues exprs copies → (value : Value) (row : List Value) → among value copies row ≡ among value exprs row
-same_among [] [] are value row = refl
-same_among [] (y ∷ copies) are value row = absurd are
-same_among (x ∷ exprs) [] are value row = absurd are
-same_among (x ∷ exprs) (y ∷ copies) are value row =
-    let first = are.0 in
-    let rest = same_among exprs copies are.1 value row in
-    λ i. one_holds (comparison is.Equal (Some value) (first i row)) (rest i)
-
-pub same_among_of : (exprs copies : List Expr) → HaveSameValues exprs copies → (value : Option Value) (row : List Value) → among_of value copies row ≡ among_of value exprs row
-same_among_of exprs copies are None row = refl
-same_among_of exprs copies are (Some value) row = same_among exprs copies are value row
 
 -- alike trees have the same instances
 

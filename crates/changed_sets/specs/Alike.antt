@@ -1,18 +1,9 @@
 -- Trees that are alike.
 
 use Rattle.std.specs.Prelude.{◌≡◌, List, [], ◌∷◌}
-use Rattle.expressions.specs.Expressions.{eval}
-use Rattle.expressions.specs.declared.expression.Expr.{Expr}
 use Rattle.instances.specs.declared.tree.Child.{Child}
 use Rattle.instances.specs.declared.tree.Tree.{Tree}
 use Rattle.instances.specs.Views.{selects}
-
--- expressions that have the same values on each row
-abbrev pub HaveSameValues : List Expr → List Expr → Type 0
-HaveSameValues [] [] = Unit {0}
-HaveSameValues [] (e ∷ copies) = ⊥
-HaveSameValues (e ∷ exprs) [] = ⊥
-HaveSameValues (e ∷ exprs) (f ∷ copies) = (eval f ≡ eval e) × HaveSameValues exprs copies
 
 -- the same child table, and a condition that selects the same rows
 pub record IsAlikeChild (child copy : Child) : Type 0 where

@@ -22,8 +22,8 @@ use Rattle.evaluator.specs.row_types.specs.declared.value.Value.{Value}
 use Rattle.evaluator.specs.row_types.specs.declared.value.Value.TheVariants.{Null, Text, Time}
 use Rattle.evaluator.specs.row_types.specs.Literals.{number_value}
 use Rattle.evaluator.specs.row_types.specs.TimeTexts.{time_of}
-use Rattle.evaluator.specs.expressions.specs.declared.expression.Expr.{Expr}
-use Rattle.evaluator.specs.expressions.specs.declared.expression.Expr.TheVariants.{Literal}
+use Rattle.evaluator.specs.expressions.specs.Trees.{Expr}
+use Rattle.evaluator.specs.expressions.specs.Trees.{Literal}
 use Rattle.evaluator.specs.table_defs.specs.declared.definition.TableDef.{TableDef}
 use Rattle.evaluator.specs.declared.change.Action.TheVariants.{Insert}
 use Rattle.evaluator.specs.declared.change.Change.{Change}

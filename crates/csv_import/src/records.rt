@@ -140,7 +140,7 @@ fn literal_of(alloc: Global, column: &Column, field: &[u8]) -> Result<Expr, Refu
 {
     match value_in(alloc, column.ty, field)? {
         None => Err(Refused::Rule(unread(alloc, &column.name)?)),
-        Some(value) => Ok(Expr::Literal(value)),
+        Some(value) => Ok(Expr::literal(value)),
     }
 }
 

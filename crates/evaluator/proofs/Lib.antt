@@ -3,6 +3,7 @@ pub mod CapLaws
 pub mod CascadeLaws
 pub mod ChildSteps
 pub mod ConditionLaws
+pub mod ListLaws
 pub mod QueryLaws
 pub mod QueryOrder
 pub mod RuleLaws

@@ -22,8 +22,7 @@ use Rattle.table_state.specs.Tables.{fits_columns}
 use Rattle.table_state.specs.Keyed.{HasFit, IsKeyed, IsUnderKeys, has_key}
 use Rattle.table_state.proofs.KeyedLaws.{none_has_fit, none_is_under}
 use Rattle.table_state.proofs.KeyLaws.{all_fit, found_by_key}
-use Rattle.expressions.specs.declared.condition.Cond.{Cond}
-use Rattle.expressions.specs.declared.expression.Expr.{Expr}
+use Rattle.expressions.specs.Trees.{Cond, Expr}
 use Rattle.evaluator.specs.declared.capped.Capped.{Capped}
 use Rattle.evaluator.specs.declared.change.Action.{Action}
 use Rattle.evaluator.specs.declared.change.Action.TheVariants.{Insert, Update}

@@ -18,8 +18,7 @@ use Rattle.table_state.specs.declared.operation.Op.{Op}
 use Rattle.table_state.specs.declared.operation.Op.TheVariants as op
 use Rattle.table_state.specs.Refusals.{is_code}
 use Rattle.table_state.specs.Tables.{TableState, table_at}
-use Rattle.expressions.specs.declared.condition.Cond.{Cond}
-use Rattle.expressions.specs.declared.expression.Expr.{Expr}
+use Rattle.expressions.specs.Trees.{Cond, Expr}
 use Rattle.expressions.specs.Expressions.{eval, with_both}
 use Rattle.expressions.specs.Conditions.{holds}
 use Rattle.evaluator.specs.declared.change.Action.{Action}

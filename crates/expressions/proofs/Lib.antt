@@ -1,0 +1,3 @@
+mod ChainLaws
+pub mod ChainMeasures
+pub mod FoldLaws

@@ -2,7 +2,7 @@
 -- by what they stand for. (TimesTen SQL Reference, "Search conditions", "Comparison predicate", "BETWEEN predicate",
 -- "IN predicate", "IS NULL predicate"; that every operand is evaluated is this project's rule.)
 
-use Rattle.std.specs.Prelude.{List, [], ◌∷◌, Option, Some, None, Bool, true, false, ◌||◌, not, if◌then◌else◌}
+use Rattle.std.specs.Prelude.{List, [], ◌∷◌, Option, Some, None, Bool, ◌||◌, not, if◌then◌else◌}
 use Rattle.std.specs.Option.{option_map}
 use Rattle.std.specs.Ordering.{is_eq, is_lt, is_gt}
 use Rattle.std.specs.declared.cmp.Ordering.{Ordering}
@@ -15,9 +15,8 @@ use Rattle.row_types.specs.Truths.{both, either, negation, truth_of}
 use Rattle.expressions.specs.Expressions.{with_both, eval}
 use Rattle.expressions.specs.declared.condition.Comparator.{Comparator}
 use Rattle.expressions.specs.declared.condition.Comparator.TheVariants as is
-use Rattle.expressions.specs.declared.condition.Cond.{Cond}
-use Rattle.expressions.specs.declared.condition.Cond.TheVariants as cond
-use Rattle.expressions.specs.declared.expression.Expr.{Expr}
+use Rattle.expressions.specs.Trees.{Cond, Expr}
+use Rattle.expressions.specs.Trees as cond
 
 -- the operator stands between values of this order
 abbrev pub stands : Comparator → Ordering → Bool
@@ -57,6 +56,6 @@ holds (cond.IsNull a) row = option_map (λ v. truth_of (is_null v)) (eval a row)
 holds (cond.Between a low high) row =
     both_hold (comparison is.AtLeast (eval a row) (eval low row)) (comparison is.AtMost (eval a row) (eval high row))
 holds (cond.In a es) row = among_of (eval a row) es row
-holds (cond.Not' p x) row = option_map negation (holds x row)
-holds (cond.And' p x q y) row = both_hold (holds x row) (holds y row)
-holds (cond.Or' p x q y) row = one_holds (holds x row) (holds y row)
+holds (cond.Not x) row = option_map negation (holds x row)
+holds (cond.And x y) row = both_hold (holds x row) (holds y row)
+holds (cond.Or x y) row = one_holds (holds x row) (holds y row)

@@ -13,8 +13,7 @@ use Rattle.row_types.specs.declared.value.Value.{Value}
 use Rattle.row_types.specs.declared.value.Value.TheVariants.{Null, Number, Text, Time}
 use Rattle.expressions.specs.declared.expression.Arithmetic.{Arithmetic}
 use Rattle.expressions.specs.declared.expression.Arithmetic.TheVariants.{Plus, Minus, Times}
-use Rattle.expressions.specs.declared.expression.Expr.{Expr}
-use Rattle.expressions.specs.declared.expression.Expr.TheVariants.{Literal, Column, Binary'}
+use Rattle.expressions.specs.Trees.{Expr, Literal, Column, Binary}
 
 -- both sides are there
 abbrev pub with_both : {A B C : Type 0} → (A → B → Option C) → Option A → Option B → Option C
@@ -47,7 +46,7 @@ calculated o a b = calculated_with o (number_in a) (number_in b)
 abbrev pub eval : Expr → List Value → Option Value
 eval (Literal value) row = Some value
 eval (Column place) row = Some (unwrap_or (slice_get row place) Null)
-eval (Binary' o p a q b) row = with_both (calculated o) (eval a row) (eval b row)
+eval (Binary o a b) row = with_both (calculated o) (eval a row) (eval b row)
 
 -- the refusal is 120 and there is no value, or memory was wanting
 abbrev pub IsOverflow : {A : Type 0} → Option A → Refused → Type 0

@@ -1,7 +1,12 @@
+pub mod ChainDepths
+pub mod ChainSizes
 pub mod Conditions
 pub mod Expressions
 pub mod Operands
+pub mod TreeCodes
+pub mod Trees
 pub mod Types
+pub mod Views
 pub use Rattle.row_types.specs.numbers
 pub use Rattle.row_types.specs.tier_base
 pub use Rattle.row_types

@@ -9,10 +9,8 @@ use Rattle.row_types.specs.declared.column.Ty.{Ty}
 use Rattle.row_types.specs.declared.column.Ty.TheVariants as ty
 use Rattle.row_types.specs.declared.value.Value.{Value}
 use Rattle.row_types.specs.declared.value.Value.TheVariants as one
-use Rattle.expressions.specs.declared.condition.Cond.{Cond}
-use Rattle.expressions.specs.declared.condition.Cond.TheVariants as cond
-use Rattle.expressions.specs.declared.expression.Expr.{Expr}
-use Rattle.expressions.specs.declared.expression.Expr.TheVariants.{Literal, Column, Binary'}
+use Rattle.expressions.specs.Trees.{Cond, Expr, Literal, Column, Binary}
+use Rattle.expressions.specs.Trees as cond
 use Rattle.expressions.specs.declared.typing.Family.{Family}
 use Rattle.expressions.specs.declared.typing.Family.TheVariants.{Number, Characters, Datetime}
 
@@ -62,7 +60,7 @@ of_both (Err e) b = Err e
 abbrev pub family_of : Expr → List Family → Result (Option Family) Code
 family_of (Literal value) columns = Ok (family_of_value value)
 family_of (Column place) columns = Ok (slice_get columns place)
-family_of (Binary' o p a q b) columns = of_both (family_of a columns) (family_of b columns)
+family_of (Binary o a b) columns = of_both (family_of a columns) (family_of b columns)
 
 abbrev pub agrees : Result (Option Family) Code → Result (Option Family) Code → Bool
 agrees (Ok a) (Ok b) = suits a b
@@ -80,6 +78,6 @@ has_sound_types (cond.IsNull a) columns = is_ok (family_of a columns)
 has_sound_types (cond.Between a low high) columns = agrees (family_of a columns) (family_of low columns)
     && agrees (family_of a columns) (family_of high columns)
 has_sound_types (cond.In a es) columns = is_ok (family_of a columns) && all_agree (family_of a columns) es columns
-has_sound_types (cond.Not' p x) columns = has_sound_types x columns
-has_sound_types (cond.And' p x q y) columns = has_sound_types x columns && has_sound_types y columns
-has_sound_types (cond.Or' p x q y) columns = has_sound_types x columns && has_sound_types y columns
+has_sound_types (cond.Not x) columns = has_sound_types x columns
+has_sound_types (cond.And x y) columns = has_sound_types x columns && has_sound_types y columns
+has_sound_types (cond.Or x y) columns = has_sound_types x columns && has_sound_types y columns

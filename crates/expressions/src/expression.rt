@@ -5,13 +5,16 @@ ghost use Rattle.std.specs.Option.{option_map};
 ghost use Rattle.row_types.specs.declared.value.Value.TheVariants as one;
 ghost use Rattle.expressions.specs.Expressions.{IsOverflow, calculated, eval, exact, number_in};
 ghost use Rattle.expressions.specs.Operands.{shown};
+ghost use Rattle.expressions.specs.Trees as trees;
+ghost use Rattle.expressions.specs.Views.{chained};
 
 use crate::columns::Columns;
 use crate::operand::Operand;
 use row_types::numbers::Number;
 use row_types::tier_base::Code;
 use row_types::{Detail, Refused, Row, Rule, Value};
-use std::alloc::Global;
+use std::alloc::{AllocError, Global};
+use std::marker::Model;
 
 /// An operation of arithmetic.
 #[derive(Clone, Copy, Debug, PartialEq, Eq)]
@@ -24,23 +27,127 @@ pub enum Arithmetic {
     Times,
 }
 
-/// An expression over the columns of a row.
-pub enum Expr {
+/// An expression over the columns of a row. Clauses see a tree without boxes and lists.
+#[cycle(expression)]
+pub struct Expr {
+    /// What stands at the top of it.
+    pub node: ExprNode,
+}
+
+/// What stands at the top of an expression.
+#[cycle(expression)]
+pub enum ExprNode {
     /// A literal's value.
     Literal(Value),
     /// The column at a place, from 0. It is NULL where the row has no such place.
     Column(usize),
-    /// An operation on two expressions.
-    Binary(Arithmetic, Box<Expr>, Box<Expr>),
+    /// Operations from left to right: the first operand, and each further one behind its operation. However long such a
+    /// chain is, it is one list.
+    Chain(Box<Expr>, Vec<Step>),
+}
+
+/// An operation of a chain, and the operand behind it.
+#[cycle(expression)]
+pub struct Step {
+    /// The operation on all that stands before it, and on the operand.
+    pub operation: Arithmetic,
+    /// The operand.
+    pub operand: Expr,
 }
 
 impl Drop for Expr {
+    #[cycle(drop_expression)]
+    fn drop(self) {
+        let Self { node: _ } = self;
+    }
+}
+
+impl Drop for ExprNode {
+    #[cycle(drop_expression)]
     fn drop(self) {
         match self {
             Self::Literal(_) => {}
             Self::Column(_) => {}
-            Self::Binary(_, _, _) => {}
+            Self::Chain(_, _) => {}
         }
+    }
+}
+
+impl Drop for Step {
+    #[cycle(drop_expression)]
+    fn drop(self) {
+        let Self {
+            operation: _,
+            operand: _,
+        } = self;
+    }
+}
+
+impl Model for Expr {
+    ghost use Rattle.expressions.specs.Trees as trees;
+    ghost use Rattle.expressions.specs.TreeCodes.{expression_code};
+
+    ghost Value = { trees.Expr };
+
+    ghost coded = { expression_code };
+
+    ghost use Rattle.expressions.specs.Views.{HasSteps, expression_of};
+
+    ghost view = { λ e. expression_of e.node };
+
+    ghost invariant = { λ e. HasSteps e.node };
+
+    ghost size = { trees.nodes_of_expression };
+
+    ghost use Rattle.expressions.specs.ChainDepths.{depth_le-expression};
+
+    ghost size_decreases = { λ a h. depth_le-expression a.node h };
+}
+
+impl Expr {
+    /// A literal's value.
+    pub fn literal(value: Value) -> Expr
+        ensures { result ≡ trees.Literal value }
+    {
+        Expr {
+            node: ExprNode::Literal(value),
+        }
+    }
+
+    /// The column at a place, from 0.
+    pub fn column(place: usize) -> Expr
+        ensures { result ≡ trees.Column place }
+    {
+        Expr {
+            node: ExprNode::Column(place),
+        }
+    }
+
+    /// An operation on two expressions. Where the left one is a chain, it gets longer. The error is want of memory.
+    #[tactic(auto, using(crate::proofs::ChainLaws::longer_chain))]
+    pub fn binary(
+        alloc: Global,
+        operation: Arithmetic,
+        left: Expr,
+        right: Expr,
+    ) -> Result<Expr, AllocError>
+        ensures { IfOk result (λ e. e ≡ trees.Binary operation left right) }
+    {
+        let step = Step {
+            operation,
+            operand: right,
+        };
+        let mut left = left;
+        if let ExprNode::Chain(_, steps) = &mut left.node {
+            steps.push(step)?;
+            return Ok(left);
+        }
+        let first = Box::new(alloc, left)?;
+        let mut steps = Vec::with_capacity(alloc, 1)?;
+        steps.push(step)?;
+        Ok(Expr {
+            node: ExprNode::Chain(first, steps),
+        })
     }
 }
 
@@ -49,19 +156,40 @@ impl Drop for Expr {
 ///
 /// Arithmetic with NULL is NULL, and so is arithmetic on a text or a time, which the rule of types refuses
 /// beforehand. (TimesTen SQL Reference, "Expressions"; exact numbers are this project's rule.)
+#[cycle(values)]
 pub fn value_of<'a, C: Columns>(expr: &'a Expr, columns: &'a C) -> Option<Operand<'a>>
     ensures { option_map shown result ≡ eval expr.now (C.values columns.now) }
 {
-    match expr {
-        Expr::Literal(value) => Some(Operand::Stored(value)),
-        Expr::Column(place) => Some(stored_or_null(columns.at(*place))),
-        Expr::Binary(operation, left, right) => {
-            match (value_of(left, columns), value_of(right, columns)) {
-                (Some(left), Some(right)) => calculated(*operation, &left, &right),
-                _ => None,
-            }
-        }
+    match &expr.node {
+        ExprNode::Literal(value) => Some(Operand::Stored(value)),
+        ExprNode::Column(place) => Some(stored_or_null(columns.at(*place))),
+        ExprNode::Chain(first, steps) => chain_value(first, steps.as_slice(), columns),
     }
+}
+
+// What an expression and operations on it are.
+#[cycle(values)]
+#[tactic(auto, using(crate::proofs::FoldLaws::eval_chained, crate::proofs::FoldLaws::applied_none, crate::proofs::FoldLaws::applied_stops))]
+fn chain_value<'a, C: Columns>(
+    first: &'a Expr,
+    steps: &'a [Step],
+    columns: &'a C,
+) -> Option<Operand<'a>>
+    ensures { option_map shown result ≡ eval (chained first.now steps.now) (C.values columns.now) }
+{
+    let Some(mut value) = value_of(first, columns) else {
+        return None;
+    };
+    for step in steps {
+        let Some(operand) = value_of(&step.operand, columns) else {
+            return None;
+        };
+        let Some(next) = calculated(step.operation, &value, &operand) else {
+            return None;
+        };
+        value = next;
+    }
+    Some(value)
 }
 
 /// What the expression is on a row.

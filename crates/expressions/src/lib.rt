@@ -3,13 +3,14 @@
 
 pub mod columns;
 pub mod condition;
+pub mod copies;
 pub mod expression;
 pub mod operand;
 pub mod typing;
 
 pub use columns::{Columns, NoColumns};
-pub use condition::{Comparator, Cond, holds, truth_on};
-pub use expression::{Arithmetic, Expr, eval, value_of};
+pub use condition::{Comparator, Cond, CondNode, holds, truth_on};
+pub use expression::{Arithmetic, Expr, ExprNode, Step, eval, value_of};
 pub use operand::Operand;
 pub use row_types;
 pub use row_types::{numbers, tier_base};

@@ -1,10 +1,11 @@
 //! The rule of types.
 
 ghost use Rattle.std.specs.Prelude.{◌≡◌};
-ghost use Rattle.expressions.specs.Types.{agrees, all_agree, family_of, family_of_type, family_of_value, has_sound_types, is_numeric, of_numbers, same_family, suits};
+ghost use Rattle.expressions.specs.Types.{agrees, all_agree, family_of, family_of_type, family_of_value, has_sound_types, is_numeric, of_both, of_numbers, same_family, suits};
+ghost use Rattle.expressions.specs.Views.{all_of, any_of, chained};
 
-use crate::condition::Cond;
-use crate::expression::Expr;
+use crate::condition::{Cond, CondNode};
+use crate::expression::{Expr, ExprNode, Step};
 use row_types::tier_base::Code;
 use row_types::{Ty, Value};
 
@@ -37,18 +38,28 @@ pub fn family_of_type(ty: Ty) -> Family
 ///
 /// `TypeMismatch` exactly where arithmetic meets an expression that is no number. (TimesTen SQL Reference,
 /// "Expressions"; without conversion between families, which is this project's rule.)
+#[cycle(families)]
 pub fn family_of(expr: &Expr, columns: &[Family]) -> Result<Option<Family>, Code>
     ensures { result ≡ family_of expr.now columns.now }
 {
-    match expr {
-        Expr::Literal(value) => Ok(family_of_value(value)),
-        Expr::Column(place) => Ok(columns.get(*place).copied()),
-        Expr::Binary(_, left, right) => {
-            let left = family_of(left, columns)?;
-            let right = family_of(right, columns)?;
-            of_numbers(left, right)
-        }
+    match &expr.node {
+        ExprNode::Literal(value) => Ok(family_of_value(value)),
+        ExprNode::Column(place) => Ok(columns.get(*place).copied()),
+        ExprNode::Chain(first, steps) => chain_family(first, steps.as_slice(), columns),
     }
+}
+
+// The family of an expression and operations on it.
+#[cycle(families)]
+#[tactic(auto, using(crate::proofs::FoldLaws::family_chained))]
+fn chain_family(first: &Expr, steps: &[Step], columns: &[Family]) -> Result<Option<Family>, Code>
+    ensures { result ≡ family_of (chained first.now steps.now) columns.now }
+{
+    let mut family = family_of(first, columns);
+    for step in steps {
+        family = of_both(family, family_of(&step.operand, columns));
+    }
+    family
 }
 
 /// Whether the condition keeps the rule of types over columns of these families: each comparison, also those of
@@ -56,26 +67,43 @@ pub fn family_of(expr: &Expr, columns: &[Family]) -> Result<Option<Family>, Code
 ///
 /// Where it isn't so the statement is refused with 104. (TimesTen SQL Reference, "Comparison predicate"; without
 /// conversion between families, which is this project's rule.)
+#[cycle(soundness)]
 pub fn has_sound_types(cond: &Cond, columns: &[Family]) -> bool
     ensures { result ≡ has_sound_types cond.now columns.now }
 {
-    match cond {
-        Cond::Compared(_, left, right) => agrees(family_of(left, columns), right, columns),
-        Cond::IsNull(expr) => family_of(expr, columns).is_ok(),
-        Cond::Between(expr, low, high) => {
+    match &cond.node {
+        CondNode::Compared(_, left, right) => agrees(family_of(left, columns), right, columns),
+        CondNode::IsNull(expr) => family_of(expr, columns).is_ok(),
+        CondNode::Between(expr, low, high) => {
             let family = family_of(expr, columns);
             agrees(family, low, columns) && agrees(family, high, columns)
         }
-        Cond::In(expr, list) => {
+        CondNode::In(expr, list) => {
             let family = family_of(expr, columns);
             family.is_ok() && all_agree(family, list.as_slice(), columns)
         }
-        Cond::Not(cond) => has_sound_types(cond, columns),
-        Cond::And(left, right) => {
-            has_sound_types(left, columns) && has_sound_types(right, columns)
-        }
-        Cond::Or(left, right) => has_sound_types(left, columns) && has_sound_types(right, columns),
+        CondNode::Not(cond) => has_sound_types(cond, columns),
+        CondNode::And(first, others) => are_sound(first, others.as_slice(), columns),
+        CondNode::Or(first, others) => are_sound(first, others.as_slice(), columns),
     }
+}
+
+// Whether a condition and each of the others keep the rule.
+#[cycle(soundness)]
+#[tactic(auto, using(crate::proofs::FoldLaws::sound_all, crate::proofs::FoldLaws::sound_any, crate::proofs::FoldLaws::sound_none, crate::proofs::FoldLaws::sound_stops))]
+fn are_sound(first: &Cond, others: &[Cond], columns: &[Family]) -> bool
+    ensures all { result ≡ has_sound_types (all_of first.now others.now) columns.now }
+    ensures any { result ≡ has_sound_types (any_of first.now others.now) columns.now }
+{
+    if !has_sound_types(first, columns) {
+        return false;
+    }
+    for cond in others {
+        if !has_sound_types(cond, columns) {
+            return false;
+        }
+    }
+    true
 }
 
 /// Whether a value of one family may stand where another is wanted: they are the same, or one is NULL.
@@ -104,15 +132,16 @@ fn agrees(family: Result<Option<Family>, Code>, expr: &Expr, columns: &[Family])
     }
 }
 
+// Whether each of them has a family that suits.
 fn all_agree(family: Result<Option<Family>, Code>, list: &[Expr], columns: &[Family]) -> bool
     ensures { result ≡ all_agree family list.now columns.now }
 {
-    match list.split_first() {
-        None => true,
-        Some((first, list)) => {
-            agrees(family, first, columns) && all_agree(family, list, columns)
+    for expr in list {
+        if !agrees(family, expr, columns) {
+            return false;
         }
     }
+    true
 }
 
 fn family_of_value(value: &Value) -> Option<Family>
@@ -124,6 +153,18 @@ fn family_of_value(value: &Value) -> Option<Family>
         Value::Text(_) => Some(Family::Characters),
         Value::Time(_) => Some(Family::Datetime),
     }
+}
+
+// The family of an operation on two operands of these families.
+fn of_both(
+    left: Result<Option<Family>, Code>,
+    right: Result<Option<Family>, Code>,
+) -> Result<Option<Family>, Code>
+    ensures { result ≡ of_both left right }
+{
+    let left = left?;
+    let right = right?;
+    of_numbers(left, right)
 }
 
 fn of_numbers(left: Option<Family>, right: Option<Family>) -> Result<Option<Family>, Code>

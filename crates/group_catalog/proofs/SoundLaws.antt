@@ -6,7 +6,7 @@ use Rattle.std.specs.List.{list_any, prefix_len}
 use Rattle.std.specs.Option.{option_map, option_or}
 use Rattle.tier_base.specs.declared.number.TableId.{TableId}
 use Rattle.row_types.specs.declared.rule.Rule.{Rule}
-use Rattle.expressions.specs.declared.condition.Cond.{Cond}
+use Rattle.expressions.specs.Trees.{Cond}
 use Rattle.table_defs.specs.declared.definition.ForeignKey.{ForeignKey}
 use Rattle.table_defs.specs.declared.definition.TableDef.{TableDef}
 use Rattle.table_defs.specs.Names.{place_of_table}

@@ -4,7 +4,7 @@ use Rattle.std.proofs.lemmas.List.{length-map}
 use Rattle.std.specs.FinMap as fm
 use Rattle.row_types.specs.declared.value.Value.{Value}
 use Rattle.tier_base.specs.declared.code.Code.TheVariants as code
-use Rattle.expressions.specs.declared.condition.Cond.{Cond}
+use Rattle.expressions.specs.Trees.{Cond}
 use Rattle.indexed_rows.specs.Rows.{Table, key_of}
 use Rattle.evaluator.specs.Writes.{selects}
 use Rattle.instances.specs.Views.{is_true, kept_at, passes, rows_where}

@@ -10,7 +10,7 @@ use Rattle.table_defs.specs.declared.definition.TableDef.{TableDef}
 use Rattle.table_state.specs.declared.operation.Op.{Op}
 use Rattle.sql_subset.specs.declared.stmt.OfGroup.{OfGroup}
 use Rattle.sql_subset.specs.declared.stmt.Stmt.TheVariants as statement
-use Rattle.expressions.specs.declared.condition.Cond.{Cond}
+use Rattle.expressions.specs.Trees.{Cond}
 use Rattle.order_laws.proofs.TruthLaws.{both_true}
 use Rattle.resolution.specs.Placing.{filter_seen, placed_filter}
 use Rattle.resolution.specs.Scopes.{SeenColumn}

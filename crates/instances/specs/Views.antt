@@ -10,7 +10,7 @@ use Rattle.table_state.specs.table_defs.specs.declared.definition.TableDef.{Tabl
 use Rattle.table_state.specs.table_defs.specs.Declarations.{foreign_places}
 use Rattle.table_state.specs.indexed_rows.specs.Rows.{Table, is_same, key_of}
 use Rattle.table_state.specs.Tables.{TableState, table_at}
-use Rattle.expressions.specs.declared.condition.Cond.{Cond}
+use Rattle.expressions.specs.Trees.{Cond}
 use Rattle.expressions.specs.Conditions.{holds}
 use Rattle.instances.specs.declared.tree.Child.{Child}
 use Rattle.instances.specs.declared.tree.Root.{Root}

@@ -7,7 +7,7 @@ use Rattle.tier_base.specs.Limits.{greatest}
 use Rattle.row_types.specs.declared.column.Column.{Column}
 use Rattle.row_types.specs.declared.rule.Rule.{Rule}
 use Rattle.row_types.specs.declared.value.Value.{Value}
-use Rattle.expressions.specs.declared.expression.Expr.{Expr}
+use Rattle.expressions.specs.Trees.{Expr}
 use Rattle.evaluator.specs.declared.change.Change.{Change}
 use Rattle.evaluator.specs.Rules.{added, limit, then_do}
 use Rattle.evaluator.specs.Writes.{built}

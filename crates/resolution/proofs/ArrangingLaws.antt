@@ -1,8 +1,8 @@
 -- One more value in a row.
 
-use Rattle.std.proofs.Common.{◌≡◌, refl, ℕ, zero, suc, List, [], ◌∷◌, ◌++◌, drop, length, map, slice_set, ap, ◌∙◌}
+use Rattle.std.proofs.Common.{◌≡◌, refl, ℕ, zero, suc, List, [], ◌∷◌, ◌++◌, drop, length, slice_set, ap, ◌∙◌}
 use Rattle.std.proofs.lemmas.List.{length-map, map-append, map-set}
-use Rattle.evaluator.specs.expressions.specs.declared.expression.Expr.{Expr}
+use Rattle.evaluator.specs.expressions.specs.Trees.{Expr}
 use Rattle.resolution.specs.Assignments.{arranged, put_first}
 use Rattle.resolution.specs.Placing.{PlacedExpression, expression_seen, expressions_seen}
 

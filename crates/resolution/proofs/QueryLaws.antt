@@ -3,8 +3,7 @@
 use Rattle.std.proofs.Common.{◌≡◌, ℕ, List, Option, Bool, ◌&&◌, map, ap, ◌∙◌, subst}
 use Rattle.std.specs.Prelude.{Ok}
 use Rattle.evaluator.specs.tier_base.specs.declared.number.TableId.{TableId}
-use Rattle.evaluator.specs.expressions.specs.declared.condition.Cond.{Cond}
-use Rattle.evaluator.specs.expressions.specs.declared.expression.Expr.{Expr}
+use Rattle.evaluator.specs.expressions.specs.Trees.{Cond, Expr}
 use Rattle.evaluator.specs.expressions.specs.Types.{family_of}
 use Rattle.sql_query.specs.declared.query.OrderItem.{OrderItem}
 use Rattle.sql_query.specs.declared.query.Query.{Query}

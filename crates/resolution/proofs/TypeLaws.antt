@@ -4,7 +4,7 @@ use Rattle.std.proofs.Common.{◌≡◌, refl, List, [], ◌∷◌, Option, ◌&
 use Rattle.std.specs.Prelude.{Result}
 use Rattle.std.specs.List.{list_all}
 use Rattle.evaluator.specs.tier_base.specs.declared.code.Code.{Code}
-use Rattle.evaluator.specs.expressions.specs.declared.expression.Expr.{Expr}
+use Rattle.evaluator.specs.expressions.specs.Trees.{Expr}
 use Rattle.evaluator.specs.expressions.specs.declared.typing.Family.{Family}
 use Rattle.evaluator.specs.expressions.specs.Types.{agrees, all_agree, family_of}
 

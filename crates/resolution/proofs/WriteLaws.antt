@@ -5,8 +5,7 @@ use Rattle.std.specs.Prelude.{Result, Ok}
 use Rattle.evaluator.specs.tier_base.specs.declared.code.Code.TheVariants.{KeyColumnSet}
 use Rattle.evaluator.specs.row_types.specs.declared.column.Column.{Column}
 use Rattle.evaluator.specs.row_types.specs.declared.rule.Rule.{Rule}
-use Rattle.evaluator.specs.expressions.specs.declared.condition.Cond.{Cond}
-use Rattle.evaluator.specs.expressions.specs.declared.expression.Expr.{Expr}
+use Rattle.evaluator.specs.expressions.specs.Trees.{Cond, Expr}
 use Rattle.evaluator.specs.expressions.specs.Types.{family_of}
 use Rattle.sql_query.specs.declared.write.Assignment.{Assignment}
 use Rattle.sql_query.specs.declared.write.Delete.{Delete as DeleteStatement}

@@ -5,11 +5,9 @@ use Rattle.std.specs.Prelude.{ℕ, List, [], ◌∷◌, Option, Some, None, Bool
 use Rattle.evaluator.specs.row_types.specs.declared.rule.Rule.{Rule}
 use Rattle.evaluator.specs.row_types.specs.declared.value.Value.{Value}
 use Rattle.evaluator.specs.expressions.specs.declared.condition.Comparator.{Comparator}
-use Rattle.evaluator.specs.expressions.specs.declared.condition.Cond.{Cond}
-use Rattle.evaluator.specs.expressions.specs.declared.condition.Cond.TheVariants as cond
+use Rattle.evaluator.specs.expressions.specs.Trees.{Cond, Expr}
+use Rattle.evaluator.specs.expressions.specs.Trees as node
 use Rattle.evaluator.specs.expressions.specs.declared.expression.Arithmetic.{Arithmetic}
-use Rattle.evaluator.specs.expressions.specs.declared.expression.Expr.{Expr}
-use Rattle.evaluator.specs.expressions.specs.declared.expression.Expr.TheVariants as expr
 use Rattle.sql_query.specs.Trees.{ConditionTree, ExpressionTree}
 use Rattle.sql_query.specs.Trees as tree
 use Rattle.evaluator.specs.Rules.{then_do}
@@ -35,9 +33,9 @@ pub data PlacedCondition : Type 0 where
 
 -- what the evaluator's expressions and conditions are, without their boxes
 abbrev pub expression_seen : Expr → PlacedExpression
-expression_seen (expr.Literal value) = Literal value
-expression_seen (expr.Column place) = Column place
-expression_seen (expr.Binary' o p a q b) = Binary o (expression_seen a) (expression_seen b)
+expression_seen (node.Literal value) = Literal value
+expression_seen (node.Column place) = Column place
+expression_seen (node.Binary o a b) = Binary o (expression_seen a) (expression_seen b)
 
 -- the same of several
 abbrev pub expressions_seen : List Expr → List PlacedExpression
@@ -45,13 +43,13 @@ expressions_seen es = map expression_seen es
 
 -- the same of a condition
 abbrev pub condition_seen : Cond → PlacedCondition
-condition_seen (cond.Compared k a b) = Compared k (expression_seen a) (expression_seen b)
-condition_seen (cond.IsNull a) = IsNull (expression_seen a)
-condition_seen (cond.Between a low high) = Between (expression_seen a) (expression_seen low) (expression_seen high)
-condition_seen (cond.In a es) = In (expression_seen a) (expressions_seen es)
-condition_seen (cond.Not' p x) = Not (condition_seen x)
-condition_seen (cond.And' p x q y) = And (condition_seen x) (condition_seen y)
-condition_seen (cond.Or' p x q y) = Or (condition_seen x) (condition_seen y)
+condition_seen (node.Compared k a b) = Compared k (expression_seen a) (expression_seen b)
+condition_seen (node.IsNull a) = IsNull (expression_seen a)
+condition_seen (node.Between a low high) = Between (expression_seen a) (expression_seen low) (expression_seen high)
+condition_seen (node.In a es) = In (expression_seen a) (expressions_seen es)
+condition_seen (node.Not x) = Not (condition_seen x)
+condition_seen (node.And x y) = And (condition_seen x) (condition_seen y)
+condition_seen (node.Or x y) = Or (condition_seen x) (condition_seen y)
 
 -- the same of a condition behind WHERE, where there is one
 abbrev pub filter_seen : Option Cond → Option PlacedCondition

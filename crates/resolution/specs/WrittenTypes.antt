@@ -7,7 +7,7 @@ use Rattle.std.specs.List.{list_all}
 use Rattle.std.specs.Option.{option_and_then}
 use Rattle.std.specs.Result.{is_ok}
 use Rattle.evaluator.specs.tier_base.specs.declared.code.Code.{Code}
-use Rattle.evaluator.specs.expressions.specs.declared.condition.Cond.{Cond}
+use Rattle.evaluator.specs.expressions.specs.Trees.{Cond}
 use Rattle.evaluator.specs.expressions.specs.declared.typing.Family.{Family}
 use Rattle.evaluator.specs.expressions.specs.Types.{agrees, has_sound_types, of_both}
 use Rattle.sql_query.specs.Trees.{ConditionTree, ExpressionTree, Constant, Column, Binary, Compared, Missing, Between, Among, Not, All, Any}

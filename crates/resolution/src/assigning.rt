@@ -145,15 +145,15 @@ pub(crate) fn suit_columns(
 ) -> bool
     ensures { result ≡ suit_columns columns.now targets.now (map (λ e. family_of e families.now) values.now) }
 {
-    match (targets.split_first(), values.split_first()) {
-        (None, None) => true,
-        (Some((place, targets)), Some((value, values))) => {
-            suits_column(columns, *place, value, families)
-                && suit_columns(columns, targets, values, families)
-        }
-        (Some(_), None) => false,
-        (None, Some(_)) => false,
+    if targets.len() != values.len() {
+        return false;
     }
+    for (place, value) in targets.iter().zip(values) {
+        if !suits_column(columns, *place, value, families) {
+            return false;
+        }
+    }
+    true
 }
 
 fn suits_column(columns: &[Column], place: usize, value: &Expr, families: &[Family]) -> bool

@@ -23,9 +23,7 @@ pub(crate) fn binary(
     ensures typed { IfOk result (λ e. (columns : List OneFamily)
         → family_of e columns ≡ of_both (family_of left columns) (family_of right columns)) }
 {
-    let left = Box::new(alloc, left)?;
-    let right = Box::new(alloc, right)?;
-    Ok(Expr::Binary(operation, left, right))
+    Expr::binary(alloc, operation, left, right)
 }
 
 /// NOT.
@@ -34,8 +32,7 @@ pub(crate) fn negation(alloc: Global, cond: Cond) -> Result<Cond, AllocError>
     ensures typed { IfOk result (λ c. (columns : List OneFamily)
         → has_sound_types c columns ≡ has_sound_types cond columns) }
 {
-    let cond = Box::new(alloc, cond)?;
-    Ok(Cond::Not(cond))
+    Cond::not(alloc, cond)
 }
 
 /// NOT where it is wanted.
@@ -65,7 +62,7 @@ pub(crate) fn membership(
         → has_sound_types c columns ≡ (is_ok (family_of expr columns)
         && list_all (agrees (family_of expr columns)) (map (λ e. family_of e columns) list.items))) }
 {
-    negated_if(alloc, negated, Cond::In(expr, Seq::from_vec(list)))
+    negated_if(alloc, negated, Cond::among(expr, Seq::from_vec(list)))
 }
 
 /// AND.
@@ -74,9 +71,7 @@ pub(crate) fn conjunction(alloc: Global, left: Cond, right: Cond) -> Result<Cond
     ensures typed { IfOk result (λ c. (columns : List OneFamily)
         → has_sound_types c columns ≡ (has_sound_types left columns && has_sound_types right columns)) }
 {
-    let left = Box::new(alloc, left)?;
-    let right = Box::new(alloc, right)?;
-    Ok(Cond::And(left, right))
+    Cond::and(alloc, left, right)
 }
 
 /// OR.
@@ -85,7 +80,5 @@ pub(crate) fn disjunction(alloc: Global, left: Cond, right: Cond) -> Result<Cond
     ensures typed { IfOk result (λ c. (columns : List OneFamily)
         → has_sound_types c columns ≡ (has_sound_types left columns && has_sound_types right columns)) }
 {
-    let left = Box::new(alloc, left)?;
-    let right = Box::new(alloc, right)?;
-    Ok(Cond::Or(left, right))
+    Cond::or(alloc, left, right)
 }

@@ -50,7 +50,7 @@ fn all_columns(alloc: Global, scope: &[Seen<'_>]) -> Result<Vec<Expr>, AllocErro
 {
     let mut columns = Vec::with_capacity(alloc, scope.len())?;
     for (place, _) in scope.iter().enumerate() {
-        columns.push(Expr::Column(place))?;
+        columns.push(Expr::column(place))?;
     }
     Ok(columns)
 }
@@ -124,7 +124,7 @@ fn place_operand(
     ensures held { OnOk result (unheld.new ≡ unheld.old || has_unheld (operand_of aggregate.now)) }
 {
     match aggregate {
-        NamedAggregate::Rows => Ok(Expr::Literal(Value::Null)),
+        NamedAggregate::Rows => Ok(Expr::literal(Value::Null)),
         NamedAggregate::Count(operand) => place_expression(alloc, scope, operand, unheld),
         NamedAggregate::Sum(operand) => place_expression(alloc, scope, operand, unheld),
         NamedAggregate::Least(operand) => place_expression(alloc, scope, operand, unheld),
@@ -187,25 +187,18 @@ pub(crate) fn suits_families(selected: &SelectList, listed: &[Expr], families: &
 fn have_families(listed: &[Expr], families: &[Family]) -> bool
     ensures { result ≡ list_all is_ok (map (λ e. family_of e families.now) listed.now) }
 {
-    match listed.split_first() {
-        None => true,
-        Some((expr, listed)) => {
-            family_of(expr, families).is_ok() && have_families(listed, families)
-        }
-    }
+    listed.iter().all(|expr| family_of(expr, families).is_ok())
 }
 
 fn suit_totals(aggregates: &[NamedAggregate], operands: &[Expr], families: &[Family]) -> bool
     ensures { result ≡ suit_totals (map total_of aggregates.now) (map (λ e. family_of e families.now) operands.now) }
 {
-    match (aggregates.split_first(), operands.split_first()) {
-        (Some((aggregate, aggregates)), Some((operand, operands))) => {
-            suits_total(total_of(aggregate), family_of(operand, families))
-                && suit_totals(aggregates, operands, families)
+    for (aggregate, operand) in aggregates.iter().zip(operands) {
+        if !suits_total(total_of(aggregate), family_of(operand, families)) {
+            return false;
         }
-        (Some(_), None) => true,
-        (None, _) => true,
     }
+    true
 }
 
 fn suits_total(total: Aggregate, family: Result<Option<Family>, Code>) -> bool

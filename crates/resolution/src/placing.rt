@@ -4,6 +4,7 @@ ghost use Rattle.std.specs.Prelude.{◌≡◌, ◌||◌, IfOk, OnOk, map};
 ghost use Rattle.evaluator.specs.expressions.specs.Types.{family_of, family_of_value, has_sound_types};
 ghost use Rattle.std.specs.Option.{is_none};
 ghost use Rattle.sql_query.specs.Literals.{value_of};
+ghost use Rattle.sql_query.specs.Views.{all_of, any_of as some_of, chained};
 ghost use Rattle.resolution.specs.Literals.{any_of, family_of_literal, family_of_text, has_unheld, some_unheld, standing_for, unheld_in_filter, unheld_within};
 ghost use Rattle.resolution.specs.Placing.{condition_seen, expression_seen, expressions_seen, filter_seen, placed_condition, placed_expression, placed_filter, placed_list};
 ghost use Rattle.resolution.specs.Results.{Gives};
@@ -14,13 +15,14 @@ use crate::building::{binary, conjunction, disjunction, membership, negated_if, 
 use crate::scope::{Seen, placed_column};
 use evaluator::expressions::{Cond, Expr, Family, has_sound_types};
 use evaluator::row_types::{Refused, Text, Time, Value};
-use sql_query::{Condition, ConditionNode, Expression, ExpressionNode, Literal};
+use sql_query::{Condition, ConditionNode, Expression, ExpressionNode, Link, Literal};
 use std::alloc::{AllocError, Global};
 
 /// The expression with places in place of names. `unheld` becomes true where no type holds some literal of it; another
 /// value of the same family stands for such a literal.
 ///
 /// The refusal is 103 of the first name that fits no column, or two; or memory was wanting.
+#[cycle(place_expression)]
 pub(crate) fn place_expression(
     alloc: Global,
     scope: &[Seen<'_>],
@@ -35,18 +37,38 @@ pub(crate) fn place_expression(
     match &expression.node {
         ExpressionNode::Literal(literal) => {
             let value = standing_for(alloc, literal, unheld)?;
-            Ok(Expr::Literal(value))
+            Ok(Expr::literal(value))
         }
         ExpressionNode::Column(name) => {
             let place = placed_column(alloc, scope, name)?;
-            Ok(Expr::Column(place))
+            Ok(Expr::column(place))
         }
-        ExpressionNode::Binary(operation, left, right) => {
-            let left = place_expression(alloc, scope, left, unheld)?;
-            let right = place_expression(alloc, scope, right, unheld)?;
-            Ok(binary(alloc, *operation, left, right)?)
+        ExpressionNode::Chain(first, links) => {
+            place_chain(alloc, scope, first, links.as_slice(), unheld)
         }
     }
+}
+
+// An expression, and then operations on it, with places in place of names.
+#[cycle(place_expression)]
+fn place_chain(
+    alloc: Global,
+    scope: &[Seen<'_>],
+    first: &Expression,
+    links: &[Link],
+    unheld: &mut bool,
+) -> Result<Expr, Refused>
+    ensures placed { Gives expression_seen (placed_expression (shown scope.now) (chained first.now links.now)) result }
+    ensures typed { IfOk result (λ e. family_of e (families (shown scope.now))
+        ≡ written_family (shown scope.now) (chained first.now links.now)) }
+    ensures held { OnOk result (unheld.new ≡ unheld.old || has_unheld (chained first.now links.now)) }
+{
+    let mut placed = place_expression(alloc, scope, first, unheld)?;
+    for link in links {
+        let operand = place_expression(alloc, scope, &link.operand, unheld)?;
+        placed = binary(alloc, link.operation, placed, operand)?;
+    }
+    Ok(placed)
 }
 
 /// The expressions with places in place of names.
@@ -74,6 +96,7 @@ pub(crate) fn place_list(
 /// The condition with places in place of names. A NOT inside of it becomes a negation.
 ///
 /// The refusal is 103 of the first name that fits no column, or two; or memory was wanting.
+#[cycle(place_condition)]
 pub(crate) fn place_condition(
     alloc: Global,
     scope: &[Seen<'_>],
@@ -89,17 +112,17 @@ pub(crate) fn place_condition(
         ConditionNode::Compared(comparator, left, right) => {
             let left = place_expression(alloc, scope, left, unheld)?;
             let right = place_expression(alloc, scope, right, unheld)?;
-            Ok(Cond::Compared(*comparator, left, right))
+            Ok(Cond::compared(*comparator, left, right))
         }
         ConditionNode::Missing(negated, expression) => {
             let expr = place_expression(alloc, scope, expression, unheld)?;
-            Ok(negated_if(alloc, *negated, Cond::IsNull(expr))?)
+            Ok(negated_if(alloc, *negated, Cond::is_null(expr))?)
         }
         ConditionNode::Between(negated, expression, low, high) => {
             let expr = place_expression(alloc, scope, expression, unheld)?;
             let low = place_expression(alloc, scope, low, unheld)?;
             let high = place_expression(alloc, scope, high, unheld)?;
-            Ok(negated_if(alloc, *negated, Cond::Between(expr, low, high))?)
+            Ok(negated_if(alloc, *negated, Cond::between(expr, low, high))?)
         }
         ConditionNode::Among(negated, expression, list) => {
             let expr = place_expression(alloc, scope, expression, unheld)?;
@@ -110,17 +133,57 @@ pub(crate) fn place_condition(
             let cond = place_condition(alloc, scope, condition, unheld)?;
             Ok(negation(alloc, cond)?)
         }
-        ConditionNode::All(left, right) => {
-            let left = place_condition(alloc, scope, left, unheld)?;
-            let right = place_condition(alloc, scope, right, unheld)?;
-            Ok(conjunction(alloc, left, right)?)
+        ConditionNode::All(first, others) => {
+            place_all(alloc, scope, first, others.as_slice(), unheld)
         }
-        ConditionNode::Any(left, right) => {
-            let left = place_condition(alloc, scope, left, unheld)?;
-            let right = place_condition(alloc, scope, right, unheld)?;
-            Ok(disjunction(alloc, left, right)?)
+        ConditionNode::Any(first, others) => {
+            place_any(alloc, scope, first, others.as_slice(), unheld)
         }
     }
+}
+
+// AND between a condition and each of the others, with places in place of names.
+#[cycle(place_condition)]
+fn place_all(
+    alloc: Global,
+    scope: &[Seen<'_>],
+    first: &Condition,
+    others: &[Condition],
+    unheld: &mut bool,
+) -> Result<Cond, Refused>
+    ensures placed { Gives condition_seen (placed_condition (shown scope.now) (all_of first.now others.now)) result }
+    ensures typed { IfOk result (λ c. has_sound_types c (families (shown scope.now))
+        ≡ is_sound (shown scope.now) (all_of first.now others.now)) }
+    ensures held { OnOk result (unheld.new ≡ unheld.old || unheld_within (all_of first.now others.now)) }
+{
+    let mut placed = place_condition(alloc, scope, first, unheld)?;
+    for other in others {
+        let cond = place_condition(alloc, scope, other, unheld)?;
+        placed = conjunction(alloc, placed, cond)?;
+    }
+    Ok(placed)
+}
+
+// OR between a condition and each of the others, with places in place of names.
+#[cycle(place_condition)]
+fn place_any(
+    alloc: Global,
+    scope: &[Seen<'_>],
+    first: &Condition,
+    others: &[Condition],
+    unheld: &mut bool,
+) -> Result<Cond, Refused>
+    ensures placed { Gives condition_seen (placed_condition (shown scope.now) (some_of first.now others.now)) result }
+    ensures typed { IfOk result (λ c. has_sound_types c (families (shown scope.now))
+        ≡ is_sound (shown scope.now) (some_of first.now others.now)) }
+    ensures held { OnOk result (unheld.new ≡ unheld.old || unheld_within (some_of first.now others.now)) }
+{
+    let mut placed = place_condition(alloc, scope, first, unheld)?;
+    for other in others {
+        let cond = place_condition(alloc, scope, other, unheld)?;
+        placed = disjunction(alloc, placed, cond)?;
+    }
+    Ok(placed)
 }
 
 /// The condition behind WHERE, where there is one.

@@ -90,16 +90,16 @@ fn fits(seen: &Seen<'_>, name: &Name) -> bool
 }
 
 // Whether the name is that of the table, a dot and that of the column.
+#[tactic(auto, using(crate::proofs::JoinLaws::joined_behind, crate::proofs::JoinLaws::not_joined))]
 fn is_joined(name: &[u8], table: &[u8], column: &[u8]) -> bool
     ensures { result ≡ same_name name.now (table.now ++ 46 ∷ column.now) }
 {
-    match (name.split_first(), table.split_first()) {
-        (Some((first, name)), Some((letter, table))) => {
-            *first == *letter && is_joined(name, table, column)
-        }
-        (Some((first, name)), None) => *first == b'.' && name == column,
-        (None, Some(_)) => false,
-        (None, None) => false,
+    match name.strip_prefix(table) {
+        None => false,
+        Some(behind) => match behind.split_first() {
+            None => false,
+            Some((first, behind)) => *first == b'.' && behind == column,
+        },
     }
 }
 

@@ -220,7 +220,7 @@ fn nulls(alloc: Global, columns: &[Column]) -> Result<Vec<Expr>, AllocError>
 {
     let mut row = Vec::with_capacity(alloc, columns.len())?;
     for _column in columns {
-        row.push(Expr::Literal(Value::Null))?;
+        row.push(Expr::literal(Value::Null))?;
     }
     Ok(row)
 }
@@ -231,7 +231,7 @@ fn unchanged(alloc: Global, columns: &[Column]) -> Result<Vec<Expr>, AllocError>
     let places = all_places(alloc, columns)?;
     let mut row = Vec::with_capacity(alloc, places.len())?;
     for place in &places {
-        row.push(Expr::Column(*place))?;
+        row.push(Expr::column(*place))?;
     }
     Ok(row)
 }

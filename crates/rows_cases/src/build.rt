@@ -125,21 +125,17 @@ fn run(alloc: Global, entries: &[Entry]) -> Result<Tables, AllocError>
 }
 
 pub fn int(it: i64) -> Expr {
-    Expr::Literal(number(it))
+    Expr::literal(number(it))
 }
 
 pub fn equal(left: Expr, right: Expr) -> Cond {
-    Cond::Compared(Comparator::Equal, left, right)
+    Cond::compared(Comparator::Equal, left, right)
 }
 
 pub fn both(alloc: Global, left: Cond, right: Cond) -> Result<Cond, AllocError> {
-    let left = Box::new(alloc, left)?;
-    let right = Box::new(alloc, right)?;
-    Ok(Cond::And(left, right))
+    Cond::and(alloc, left, right)
 }
 
 pub fn either(alloc: Global, left: Cond, right: Cond) -> Result<Cond, AllocError> {
-    let left = Box::new(alloc, left)?;
-    let right = Box::new(alloc, right)?;
-    Ok(Cond::Or(left, right))
+    Cond::or(alloc, left, right)
 }

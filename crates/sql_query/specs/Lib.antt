@@ -1,3 +1,5 @@
+pub mod ChainDepths
+pub mod ChainSizes
 pub mod Items
 pub mod Literals
 pub mod TreeCodes

@@ -9,7 +9,7 @@ use expressions::tier_base::Seq;
 use std::alloc::{AllocError, Global};
 use std::marker::Model;
 
-/// A condition with the names of columns. Clauses see a tree without boxes, a `ConditionTree`.
+/// A condition with the names of columns. Clauses see a tree without boxes and lists, a `ConditionTree`.
 #[cycle(condition)]
 pub struct Condition {
     /// What stands at the top of it.
@@ -29,10 +29,10 @@ pub enum ConditionNode {
     Among(bool, Expression, Seq<Expression>),
     /// NOT before a condition.
     Not(Box<Condition>),
-    /// AND.
-    All(Box<Condition>, Box<Condition>),
-    /// OR.
-    Any(Box<Condition>, Box<Condition>),
+    /// AND between conditions, of which this is the first. However many they are, they are one list.
+    All(Box<Condition>, Vec<Condition>),
+    /// OR between conditions, of which this is the first.
+    Any(Box<Condition>, Vec<Condition>),
 }
 
 impl Drop for Condition {
@@ -65,14 +65,17 @@ impl Model for Condition {
 
     ghost coded = { condition_code };
 
-    ghost use Rattle.sql_query.specs.Views.{condition_of};
-    ghost use Rattle.std.proofs.Common.{arith};
+    ghost use Rattle.sql_query.specs.Views.{HasOthers, condition_of};
 
     ghost view = { λ c. condition_of c.node };
 
+    ghost invariant = { λ c. HasOthers c.node };
+
     ghost size = { nodes_of_condition };
 
-    ghost size_decreases = { λ a h. Prim.grind (arith) };
+    ghost use Rattle.sql_query.specs.ChainDepths.{depth_le-condition};
+
+    ghost size_decreases = { λ a h. depth_le-condition a.node h };
 }
 
 impl Condition {
@@ -127,25 +130,39 @@ impl Condition {
         })
     }
 
-    /// AND.
+    /// AND. Where the left condition is a list of AND, it gets longer.
+    #[tactic(auto, using(crate::proofs::ChainLaws::longer_all))]
     pub fn all(alloc: Global, left: Condition, right: Condition) -> Result<Condition, AllocError>
         ensures { IfOk result (λ c. c ≡ All left right) }
     {
-        let left = Box::new(alloc, left)?;
-        let right = Box::new(alloc, right)?;
+        let mut left = left;
+        if let ConditionNode::All(_, others) = &mut left.node {
+            others.push(right)?;
+            return Ok(left);
+        }
+        let first = Box::new(alloc, left)?;
+        let mut others = Vec::with_capacity(alloc, 1)?;
+        others.push(right)?;
         Ok(Condition {
-            node: ConditionNode::All(left, right),
+            node: ConditionNode::All(first, others),
         })
     }
 
-    /// OR.
+    /// OR. Where the left condition is a list of OR, it gets longer.
+    #[tactic(auto, using(crate::proofs::ChainLaws::longer_any))]
     pub fn any(alloc: Global, left: Condition, right: Condition) -> Result<Condition, AllocError>
         ensures { IfOk result (λ c. c ≡ Any left right) }
     {
-        let left = Box::new(alloc, left)?;
-        let right = Box::new(alloc, right)?;
+        let mut left = left;
+        if let ConditionNode::Any(_, others) = &mut left.node {
+            others.push(right)?;
+            return Ok(left);
+        }
+        let first = Box::new(alloc, left)?;
+        let mut others = Vec::with_capacity(alloc, 1)?;
+        others.push(right)?;
         Ok(Condition {
-            node: ConditionNode::Any(left, right),
+            node: ConditionNode::Any(first, others),
         })
     }
 }

@@ -9,7 +9,7 @@ use expressions::tier_base::Name;
 use std::alloc::{AllocError, Global};
 use std::marker::Model;
 
-/// An expression with the names of columns. Clauses see a tree without boxes, an `ExpressionTree`.
+/// An expression with the names of columns. Clauses see a tree without boxes and lists, an `ExpressionTree`.
 #[cycle(expression)]
 pub struct Expression {
     /// What stands at the top of it.
@@ -23,8 +23,18 @@ pub enum ExpressionNode {
     Literal(Literal),
     /// A column: its name, or the name of a table of the statement, a dot and its name. The whole is one name here.
     Column(Name),
-    /// An operation on two expressions.
-    Binary(Arithmetic, Box<Expression>, Box<Expression>),
+    /// Operations from left to right: the first operand, and each further one behind its operation. However long such a
+    /// chain is, it is one list.
+    Chain(Box<Expression>, Vec<Link>),
+}
+
+/// An operation of a chain, and the operand behind it.
+#[cycle(expression)]
+pub struct Link {
+    /// The operation on all that stands before it, and on the operand.
+    pub operation: Arithmetic,
+    /// The operand.
+    pub operand: Expression,
 }
 
 impl Drop for Expression {
@@ -40,8 +50,18 @@ impl Drop for ExpressionNode {
         match self {
             Self::Literal(_) => {}
             Self::Column(_) => {}
-            Self::Binary(_, _, _) => {}
+            Self::Chain(_, _) => {}
         }
+    }
+}
+
+impl Drop for Link {
+    #[cycle(drop_expression)]
+    fn drop(self) {
+        let Self {
+            operation: _,
+            operand: _,
+        } = self;
     }
 }
 
@@ -53,14 +73,17 @@ impl Model for Expression {
 
     ghost coded = { expression_code };
 
-    ghost use Rattle.sql_query.specs.Views.{expression_of};
-    ghost use Rattle.std.proofs.Common.{arith};
+    ghost use Rattle.sql_query.specs.Views.{HasLinks, expression_of};
 
     ghost view = { λ e. expression_of e.node };
 
+    ghost invariant = { λ e. HasLinks e.node };
+
     ghost size = { nodes_of_expression };
 
-    ghost size_decreases = { λ a h. Prim.grind (arith) };
+    ghost use Rattle.sql_query.specs.ChainDepths.{depth_le-expression};
+
+    ghost size_decreases = { λ a h. depth_le-expression a.node h };
 }
 
 impl Expression {
@@ -82,7 +105,8 @@ impl Expression {
         }
     }
 
-    /// An operation on two expressions.
+    /// An operation on two expressions. Where the left one is a chain, it gets longer.
+    #[tactic(auto, using(crate::proofs::ChainLaws::longer_chain))]
     pub fn binary(
         alloc: Global,
         operation: Arithmetic,
@@ -91,10 +115,20 @@ impl Expression {
     ) -> Result<Expression, AllocError>
         ensures { IfOk result (λ e. e ≡ Binary operation left right) }
     {
-        let left = Box::new(alloc, left)?;
-        let right = Box::new(alloc, right)?;
+        let link = Link {
+            operation,
+            operand: right,
+        };
+        let mut left = left;
+        if let ExpressionNode::Chain(_, links) = &mut left.node {
+            links.push(link)?;
+            return Ok(left);
+        }
+        let first = Box::new(alloc, left)?;
+        let mut links = Vec::with_capacity(alloc, 1)?;
+        links.push(link)?;
         Ok(Expression {
-            node: ExpressionNode::Binary(operation, left, right),
+            node: ExpressionNode::Chain(first, links),
         })
     }
 }

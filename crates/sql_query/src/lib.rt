@@ -8,7 +8,7 @@ pub mod query;
 pub mod write;
 
 pub use condition::{Condition, ConditionNode};
-pub use expression::{Expression, ExpressionNode};
+pub use expression::{Expression, ExpressionNode, Link};
 pub use expressions;
 pub use expressions::{numbers, row_types, tier_base};
 pub use literal::{Literal, NumberLiteral};

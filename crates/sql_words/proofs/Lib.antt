@@ -1,2 +1,4 @@
+pub mod ChainMeasures
+pub mod Chains
 pub mod Columns
 pub mod Puts

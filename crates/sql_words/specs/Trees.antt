@@ -1,10 +1,12 @@
 -- The words of expressions and conditions (this project's rule): parentheses stand exactly where the tree needs them.
 use Rattle.std.specs.Prelude.{Bool, true, false, List, [], ◌∷◌, ◌++◌, codes, Option, Some, None}
+use Rattle.std.specs.List.{flat_map}
 use Rattle.sql_phrases.specs.expressions.specs.declared.condition.Comparator.{Comparator}
 use Rattle.sql_phrases.specs.expressions.specs.declared.condition.Comparator.TheVariants as comparators
 use Rattle.sql_phrases.specs.expressions.specs.declared.expression.Arithmetic.{Arithmetic}
 use Rattle.sql_phrases.specs.expressions.specs.declared.expression.Arithmetic.TheVariants as arithmetic
 use Rattle.sql_phrases.specs.sql_query.specs.Trees.{ExpressionTree, ConditionTree, Constant, Column, Binary, Compared, Missing, Between, Among, Not, All, Any}
+use Rattle.sql_phrases.specs.sql_query.specs.declared.expression.Link.{Link}
 use Rattle.sql_words.specs.declared.condition.Strength.{Strength}
 use Rattle.sql_words.specs.declared.condition.Strength.TheVariants.{Loose, Middle, Tight}
 use Rattle.sql_words.specs.Words.{Word, where_so, enclosed, listed, column_name_words, literal_words}
@@ -19,6 +21,10 @@ abbrev pub expression_words : ExpressionTree → List Word
 expression_words (Constant literal) = literal_words literal
 expression_words (Column name) = column_name_words name
 expression_words (Binary operation a b) = expression_words a ++ operation_word operation ∷ expression_words b
+
+-- each operation of a chain, and the operand behind it
+abbrev pub link_words : List Link → List Word
+link_words links = flat_map (λ link. operation_word link.operation ∷ expression_words link.operand) links
 
 abbrev pub comparator_word : Comparator → Word
 comparator_word comparators.Equal = codes "="
@@ -66,6 +72,10 @@ condition_words s (Not a) = codes "NOT" ∷ condition_words Tight a
 condition_words s (All a b) =
     bracketed (binds_and s) (condition_words Middle a ++ codes "AND" ∷ condition_words Tight b)
 condition_words s (Any a b) = bracketed (binds_or s) (condition_words Loose a ++ codes "OR" ∷ condition_words Middle b)
+
+-- for each condition, the word and the condition beside what binds so strongly
+abbrev pub other_words : Word → Strength → List ConditionTree → List Word
+other_words word s conditions = flat_map (λ condition. word ∷ condition_words s condition) conditions
 
 -- [ WHERE condition ]
 abbrev pub filter_words : Option ConditionTree → List Word

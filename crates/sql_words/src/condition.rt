@@ -1,6 +1,6 @@
 //! Conditions behind what is printed so far.
 ghost use Rattle.std.specs.Prelude.{◌≡◌, ◌++◌, ◌∷◌, [], OnOk, codes};
-ghost use Rattle.sql_words.specs.Trees.{binds_and, binds_or, comparator_word, condition_words, expression_words, filter_words, membership_words, not_words, range_words};
+ghost use Rattle.sql_words.specs.Trees.{binds_and, binds_or, comparator_word, condition_words, expression_words, filter_words, membership_words, not_words, other_words, range_words};
 ghost use Rattle.sql_words.specs.Words.{spaced, where_so};
 
 use crate::expression::{put_expression, put_expressions};
@@ -123,8 +123,26 @@ fn put_membership(out: &mut Vec<u8>, list: &Seq<Expression>) -> Result<(), Alloc
     put_expressions(out, list.as_slice())
 }
 
+/// Puts, for each condition, the word and the condition beside what binds so strongly.
+#[cycle(put_condition)]
+fn put_others(
+    out: &mut Vec<u8>,
+    word: &[u8],
+    strength: Strength,
+    others: &[Condition],
+) -> Result<(), AllocError>
+    ensures { OnOk result (out.new.items ≡ out.old.items ++ spaced (other_words word.now strength others.now)) }
+{
+    for condition in others {
+        put(out, word)?;
+        put_condition(out, strength, condition)?;
+    }
+    Ok(())
+}
+
 /// Puts a condition beside what binds so strongly, with parentheses exactly where they are needed. The error is want of
 /// memory.
+#[cycle(put_condition)]
 pub fn put_condition(
     out: &mut Vec<u8>,
     strength: Strength,
@@ -151,18 +169,16 @@ pub fn put_condition(
             put(out, b"NOT")?;
             put_condition(out, Strength::Tight, condition)
         }
-        ConditionNode::All(left, right) => {
+        ConditionNode::All(first, others) => {
             put_open(out, binds_and(strength))?;
-            put_condition(out, Strength::Middle, left)?;
-            put(out, b"AND")?;
-            put_condition(out, Strength::Tight, right)?;
+            put_condition(out, Strength::Middle, first)?;
+            put_others(out, b"AND", Strength::Tight, others.as_slice())?;
             put_close(out, binds_and(strength))
         }
-        ConditionNode::Any(left, right) => {
+        ConditionNode::Any(first, others) => {
             put_open(out, binds_or(strength))?;
-            put_condition(out, Strength::Loose, left)?;
-            put(out, b"OR")?;
-            put_condition(out, Strength::Middle, right)?;
+            put_condition(out, Strength::Loose, first)?;
+            put_others(out, b"OR", Strength::Middle, others.as_slice())?;
             put_close(out, binds_or(strength))
         }
     }

@@ -1,12 +1,12 @@
 //! Expressions behind what is printed so far.
 ghost use Rattle.std.specs.Prelude.{◌≡◌, ◌++◌, OnOk};
-ghost use Rattle.sql_words.specs.Trees.{expression_words, operation_word};
+ghost use Rattle.sql_words.specs.Trees.{expression_words, link_words, operation_word};
 ghost use Rattle.sql_words.specs.Words.{enclosed, listed, more, spaced};
 
 use crate::literal::put_literal;
 use crate::word::{put, put_column_name};
 use sql_phrases::expressions::Arithmetic;
-use sql_phrases::sql_query::{Expression, ExpressionNode};
+use sql_phrases::sql_query::{Expression, ExpressionNode, Link};
 use std::alloc::AllocError;
 
 fn operation_word(operation: Arithmetic) -> &'static [u8]
@@ -19,17 +19,29 @@ fn operation_word(operation: Arithmetic) -> &'static [u8]
     }
 }
 
+/// Puts each operation and the operand behind it.
+#[cycle(put_expression)]
+fn put_links(out: &mut Vec<u8>, links: &[Link]) -> Result<(), AllocError>
+    ensures { OnOk result (out.new.items ≡ out.old.items ++ spaced (link_words links.now)) }
+{
+    for link in links {
+        put(out, operation_word(link.operation))?;
+        put_expression(out, &link.operand)?;
+    }
+    Ok(())
+}
+
 /// Puts an expression. It has no parentheses: what is read is a sum of products. The error is want of memory.
+#[cycle(put_expression)]
 pub fn put_expression(out: &mut Vec<u8>, expression: &Expression) -> Result<(), AllocError>
     ensures { OnOk result (out.new.items ≡ out.old.items ++ spaced (expression_words expression.now)) }
 {
     match &expression.node {
         ExpressionNode::Literal(literal) => put_literal(out, literal),
         ExpressionNode::Column(name) => put_column_name(out, name),
-        ExpressionNode::Binary(operation, left, right) => {
-            put_expression(out, left)?;
-            put(out, operation_word(*operation))?;
-            put_expression(out, right)
+        ExpressionNode::Chain(first, links) => {
+            put_expression(out, first)?;
+            put_links(out, links.as_slice())
         }
     }
 }

@@ -17,15 +17,14 @@ use std::alloc::{AllocError, Global};
 fn by_value(digits: &[u8]) -> &[u8]
     ensures { result.now ≡ by_value digits.now }
 {
-    match digits.split_first() {
-        None => b"0",
-        Some((first, rest)) => {
-            if *first == b'0' && !rest.is_empty() {
-                return by_value(rest);
-            }
-            digits
+    let mut rest = digits;
+    while let Some((first, behind)) = rest.split_first() {
+        if *first != b'0' || behind.is_empty() {
+            return rest;
         }
+        rest = behind;
     }
+    b"0"
 }
 
 /// Puts the digits of a scale by value; 0 where it isn't written.

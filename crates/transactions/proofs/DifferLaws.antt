@@ -18,8 +18,7 @@ use Rattle.evaluator.specs.table_state.specs.Keyed.{IsKeyed}
 use Rattle.evaluator.specs.table_state.proofs.KeyLaws.{rows_apart, rows_there}
 use Rattle.evaluator.specs.table_state.proofs.KeyedLaws.{ops_keyed}
 use Rattle.evaluator.specs.table_state.proofs.PairLaws.{Every, Pairs, every_as}
-use Rattle.evaluator.specs.expressions.specs.declared.condition.Cond.{Cond}
-use Rattle.evaluator.specs.expressions.specs.declared.expression.Expr.{Expr}
+use Rattle.evaluator.specs.expressions.specs.Trees.{Cond, Expr}
 use Rattle.evaluator.specs.declared.change.Action.{Action}
 use Rattle.evaluator.specs.declared.change.Action.TheVariants.{Insert, Update, Delete}
 use Rattle.evaluator.specs.declared.change.Change.{Change}

@@ -41,8 +41,8 @@ const NO_MEMORY: u8 = 7;
 /// The status where the settings can't be read.
 const CANNOT_OPEN: u8 = 11;
 
-/// The bytes of the stack that the program runs on. A line of 65,536 bytes may be a chain of 32,000 terms, such as
-/// `1+1+..`, and what goes through its tree goes so deep.
+/// The bytes of the stack that the program runs on. A line of 65,536 bytes may order by 32,000 columns, and a
+/// transaction may have 100,000 operations: what goes over such a list may go so deep.
 const STACK_BYTES: usize = 268_435_456;
 
 fn main(rt: HostRuntime) -> ExitCode {

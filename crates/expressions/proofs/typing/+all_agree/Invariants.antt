@@ -1,6 +1,0 @@
--- The list gets shorter.
-use Rattle.std.proofs.Common.{length}
-use Rattle.expressions.proofs.typing.+all_agree.Given as goal
-
-abbrev pub decreases-all_agree : goal.decreases-all_agree
-decreases-all_agree l = length l.list.now

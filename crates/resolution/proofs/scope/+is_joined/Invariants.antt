@@ -1,6 +1,0 @@
--- The name gets shorter.
-use Rattle.std.proofs.Common.{length}
-use Rattle.resolution.proofs.scope.+is_joined.Given as goal
-
-abbrev pub decreases-is_joined : goal.decreases-is_joined
-decreases-is_joined l = length l.name.now

@@ -1,0 +1,2 @@
+mod ChainLaws
+mod DropMeasures
