@@ -68,9 +68,17 @@ pub(crate) fn learn(
 fn begins_with(front: &[TableDef], whole: &[TableDef]) -> bool
     ensures { IsTrue result → HasBecome front.now whole.now }
 {
-    match (front.split_first(), whole.split_first()) {
-        (None, _) => true,
-        (Some(_), None) => false,
-        (Some((a, front)), Some((b, whole))) => a.same(b) && begins_with(front, whole),
+    let mut these = front;
+    let mut those = whole;
+    while let (Some((a, after_a)), Some((b, after_b))) = (
+        these.split_first(),
+        those.split_first(),
+    ) {
+        if !a.same(b) {
+            return false;
+        }
+        these = after_a;
+        those = after_b;
     }
+    these.is_empty()
 }

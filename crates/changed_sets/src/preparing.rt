@@ -381,14 +381,12 @@ fn count_more(count: usize, rows: &Option<Seq<Seq<Row>>>) -> Result<usize, Alloc
 fn count_all(tables: &[Seq<Row>]) -> Result<usize, AllocError>
     ensures { IfOk result (λ count. count ≡ count_all tables.now) }
 {
-    match tables.split_first() {
-        None => Ok(0),
-        Some((rows, tables)) => {
-            let more = count_all(tables)?;
-            match rows.len().checked_add(more) {
-                None => Err(AllocError),
-                Some(count) => Ok(count),
-            }
+    let mut count: usize = 0;
+    for rows in tables {
+        match count.checked_add(rows.len()) {
+            None => return Err(AllocError),
+            Some(more) => count = more,
         }
     }
+    Ok(count)
 }

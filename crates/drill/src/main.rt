@@ -25,22 +25,13 @@ use stage::Stage;
 use std::alloc::Global;
 use std::io::{Read, Write};
 use std::process::ExitCode;
-use std::thread::Builder;
 use telling::tell_all;
 
 /// The status where nothing was run.
 const NOT_RUN: u8 = 99;
 
-/// The bytes of the stack that the drill runs on: what goes through the tree of a line that is one chain goes deep.
-const STACK_BYTES: usize = 268_435_456;
-
 fn main(rt: HostRuntime) -> ExitCode {
-    let thread = Builder::new().stack_size(STACK_BYTES);
-    let status = match thread.spawn(&rt, move || status(&rt)) {
-        Ok(running) => running.join(&rt),
-        Err(_) => status(&rt),
-    };
-    ExitCode::from(status)
+    ExitCode::from(status(&rt))
 }
 
 fn status(rt: &HostRuntime) -> u8 {

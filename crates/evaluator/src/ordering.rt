@@ -24,13 +24,20 @@ pub fn sort_found(found: &mut Vec<Found>, descending: &[bool]) -> Result<(), All
 pub fn order_by(descending: &[bool], a: &[Value], b: &[Value]) -> Ordering
     ensures { result ≡ by_values descending.now a.now b.now }
 {
-    match descending.split_first() {
-        None => Ordering::Equal,
-        Some((first, descending)) => match order_first(*first, a, b) {
-            Ordering::Equal => order_by(descending, rest_of(a), rest_of(b)),
-            decided => decided,
-        },
+    let mut ways = descending;
+    let mut these = a;
+    let mut those = b;
+    while let Some((way, others)) = ways.split_first() {
+        match order_first(*way, these, those) {
+            Ordering::Equal => {
+                ways = others;
+                these = rest_of(these);
+                those = rest_of(those);
+            }
+            decided => return decided,
+        }
     }
+    Ordering::Equal
 }
 
 // The order of the first values.

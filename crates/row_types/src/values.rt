@@ -11,26 +11,40 @@ use std::cmp::Ordering;
 pub fn order_of_values(left: &[Value], right: &[Value]) -> Ordering
     ensures { result ≡ key_order left.now right.now }
 {
-    match (left.split_first(), right.split_first()) {
-        (None, None) => Ordering::Equal,
-        (None, Some(_)) => Ordering::Less,
-        (Some(_), None) => Ordering::Greater,
-        (Some((a, left)), Some((b, right))) => match order(a, b) {
-            Ordering::Equal => order_of_values(left, right),
-            decided => decided,
-        },
+    let mut these = left;
+    let mut those = right;
+    while let (Some((a, after_a)), Some((b, after_b))) = (
+        these.split_first(),
+        those.split_first(),
+    ) {
+        match order(a, b) {
+            Ordering::Equal => {
+                these = after_a;
+                those = after_b;
+            }
+            decided => return decided,
+        }
     }
+    these.len().cmp(&those.len())
 }
 
 /// Whether both lists have the same values.
 pub fn same_values(left: &[Value], right: &[Value]) -> bool
     ensures { IsTrue result ↔ (left.now ≡ right.now) }
 {
-    match (left.split_first(), right.split_first()) {
-        (None, None) => true,
-        (Some((a, left)), Some((b, right))) => a.same(b) && same_values(left, right),
-        _ => false,
+    let mut these = left;
+    let mut those = right;
+    while let (Some((a, after_a)), Some((b, after_b))) = (
+        these.split_first(),
+        those.split_first(),
+    ) {
+        if !a.same(b) {
+            return false;
+        }
+        these = after_a;
+        those = after_b;
     }
+    these.len() == those.len()
 }
 
 /// A second copy of the values.

@@ -45,18 +45,26 @@ fn root_within<S: Scan>(
 ) -> Result<Option<Key>, AllocError>
     ensures { IfOk result (λ root. root ≡ root_within n (S.state scan.now) tree.now place key.now) }
 {
-    if place == 0 {
-        return root_key(alloc, scan, &tree.root, key);
+    let mut at = place;
+    let mut above = key.copied(alloc)?;
+    let mut left = n;
+    while at > 0 && left > 0 {
+        match tree.children.get(at - 1) {
+            None => return Ok(None),
+            Some(child) => match parent_key(alloc, scan, child, &above)? {
+                None => return Ok(None),
+                Some(parent) => {
+                    at = child.parent;
+                    above = parent;
+                }
+            },
+        }
+        left -= 1;
     }
-    if n == 0 {
-        return Ok(None);
-    }
-    match tree.children.get(place - 1) {
-        None => Ok(None),
-        Some(child) => match parent_key(alloc, scan, child, key)? {
-            None => Ok(None),
-            Some(above) => root_within(alloc, n - 1, scan, tree, child.parent, &above),
-        },
+    if at == 0 {
+        root_key(alloc, scan, &tree.root, &above)
+    } else {
+        Ok(None)
     }
 }
 

@@ -382,14 +382,12 @@ pub fn fill(alloc: Global, store: &mut Store, tables: Seq<Seq<Row>>) -> Result<(
 fn count_all(tables: &[Seq<Row>]) -> Result<usize, Refused>
     ensures { IfOk result (λ count. count ≡ count_all tables.now) }
 {
-    match tables.split_first() {
-        None => Ok(0),
-        Some((rows, tables)) => {
-            let more = count_all(tables)?;
-            match rows.len().checked_add(more) {
-                None => Err(Refused::Memory),
-                Some(count) => Ok(count),
-            }
+    let mut count: usize = 0;
+    for rows in tables {
+        match count.checked_add(rows.len()) {
+            None => return Err(Refused::Memory),
+            Some(more) => count = more,
         }
     }
+    Ok(count)
 }

@@ -151,16 +151,17 @@ fn resolved_column(
 pub fn refuse_types(columns: &[ColumnDeclaration]) -> Result<(), Refused>
     ensures { Tells result (type_fault columns.now) }
 {
-    match columns.split_first() {
-        None => Ok(()),
-        Some((column, columns)) => match type_of(&column.ty) {
-            Some(_) => refuse_types(columns),
-            None => Err(Refused::Rule(Rule {
+    let mut rest = columns;
+    while let Some((column, others)) = rest.split_first() {
+        if type_of(&column.ty).is_none() {
+            return Err(Refused::Rule(Rule {
                 code: Code::OutOfRange,
                 detail: Detail::NoType,
-            })),
-        },
+            }));
+        }
+        rest = others;
     }
+    Ok(())
 }
 
 // Whether the column is declared so, or is one of a key.

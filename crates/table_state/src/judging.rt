@@ -181,13 +181,21 @@ fn first_child(
 ) -> Result<Option<Detail>, AllocError>
     ensures { IfOk result (λ child. child ≡ first_child table key.now defs.now tables.now) }
 {
-    match (defs.split_first(), tables.split_first()) {
-        (Some((def, defs)), Some((rows, tables))) => match child_of(alloc, table, key, def, rows)? {
-            Some(child) => Ok(Some(child)),
-            None => first_child(alloc, table, key, defs, tables),
-        },
-        _ => Ok(None),
+    let mut later = defs;
+    let mut others = tables;
+    while let (Some((def, defs)), Some((rows, tables))) = (
+        later.split_first(),
+        others.split_first(),
+    ) {
+        match child_of(alloc, table, key, def, rows)? {
+            Some(child) => return Ok(Some(child)),
+            None => {
+                later = defs;
+                others = tables;
+            }
+        }
     }
+    Ok(None)
 }
 
 fn child_of(

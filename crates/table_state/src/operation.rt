@@ -94,11 +94,19 @@ impl Op {
 pub fn same_ops(left: &[Op], right: &[Op]) -> bool
     ensures { IsTrue result ↔ (left.now ≡ right.now) }
 {
-    match (left.split_first(), right.split_first()) {
-        (None, None) => true,
-        (Some((a, left)), Some((b, right))) => a.same(b) && same_ops(left, right),
-        _ => false,
+    let mut these = left;
+    let mut those = right;
+    while let (Some((a, after_a)), Some((b, after_b))) = (
+        these.split_first(),
+        those.split_first(),
+    ) {
+        if !a.same(b) {
+            return false;
+        }
+        these = after_a;
+        those = after_b;
     }
+    these.len() == those.len()
 }
 
 /// A second copy of the operations.

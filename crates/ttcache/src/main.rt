@@ -24,7 +24,6 @@ use session_cli::{Progress, top};
 use std::alloc::{AllocError, Global};
 use std::io::{ErrorKind, IsTerminal};
 use std::process::ExitCode;
-use std::thread::Builder;
 use std::{env, fs};
 use streams::{ReaderSource, WriterSink};
 use system_clock::SystemClock;
@@ -41,17 +40,8 @@ const NO_MEMORY: u8 = 7;
 /// The status where the settings can't be read.
 const CANNOT_OPEN: u8 = 11;
 
-/// The bytes of the stack that the program runs on. A line of 65,536 bytes may order by 32,000 columns, and a
-/// transaction may have 100,000 operations: what goes over such a list may go so deep.
-const STACK_BYTES: usize = 268_435_456;
-
 fn main(rt: HostRuntime) -> ExitCode {
-    let thread = Builder::new().stack_size(STACK_BYTES);
-    let status = match thread.spawn(&rt, move || status(&rt)) {
-        Ok(running) => running.join(&rt),
-        Err(_) => status(&rt),
-    };
-    ExitCode::from(status)
+    ExitCode::from(status(&rt))
 }
 
 fn status(rt: &HostRuntime) -> u8 {

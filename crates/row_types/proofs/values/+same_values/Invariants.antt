@@ -1,6 +1,0 @@
--- The list gets shorter.
-use Rattle.std.proofs.Common.{length}
-use Rattle.row_types.proofs.values.+same_values.Given as goal
-
-abbrev pub decreases-same_values : goal.decreases-same_values
-decreases-same_values l = length l.left.now

@@ -1,6 +1,0 @@
--- The list gets shorter.
-use Rattle.std.proofs.Common.{length}
-use Rattle.table_state.proofs.operation.+same_ops.Given as goal
-
-abbrev pub decreases-same_ops : goal.decreases-same_ops
-decreases-same_ops l = length l.left.now
