@@ -12,7 +12,7 @@ use cache_tier::reply::Reply;
 use outside::Sink;
 use reply_lines::{Output, write_reply};
 use row_types::{Detail, Rule};
-use sql_subset::line::{one_meaning, parse_line};
+use sql_subset::line::{one_meaning, says_something};
 use sql_subset::request::ParseError;
 use std::alloc::{AllocError, Global};
 use tier_base::{Code, Limit};
@@ -40,9 +40,9 @@ pub fn check_line(alloc: Global, line: &[u8]) -> Result<Option<Reply>, AllocErro
     if line.len() > LINE_BYTES {
         return Ok(Some(broken(alloc, Code::Limit, Detail::Limit(Limit::Line))));
     }
-    match parse_line(alloc, line) {
-        Ok(None) => Ok(None),
-        Ok(Some(_)) => Ok(Some(done(alloc, 0))),
+    match says_something(alloc, line) {
+        Ok(false) => Ok(None),
+        Ok(true) => Ok(Some(done(alloc, 0))),
         Err(ParseError::At(byte)) => Ok(Some(broken(
             alloc,
             Code::Syntax,

@@ -84,6 +84,14 @@ answers_err bytes s (e.At p) h i j d = heard bytes s (WrongAt p) h i j d
 answers_err bytes s e.Depth h i j d = heard bytes s TooDeep h i j d
 answers_err bytes s e.Memory h i j d = h
 
+heard_loud : (b : Bool) (bytes : List ℕ) (l : Line) → Heard b bytes (Says l) → b ≡ false
+heard_loud true bytes l d = absurd (cc)
+heard_loud false bytes l d = refl
+
+-- a line that says something isn't silent
+pub loud : (bytes : List ℕ) (l : Line) → Means bytes (Says l) → is_silent bytes ≡ false
+loud bytes l d = heard_loud (is_silent bytes) bytes l d
+
 not_less : (g n : ℕ) → n ≤ g → nat_lt g n ≡ false
 not_less g n h = grind (arith, nat_tests)
 

@@ -1,14 +1,12 @@
 -- What is read is no longer there: the tables of a group.
-use Rattle.std.proofs.Common.{ℕ, ◌≤◌, true, false, List, length, drop, Option, None, arith}
+use Rattle.std.proofs.Common.{◌≤◌, true, List, length, drop, None, arith}
 use Rattle.sql_phrases.specs.sql_tokens.specs.declared.kind.Kind.TheVariants as k
 use Rattle.sql_phrases.specs.sql_tokens.specs.Lexing.{Lexeme}
-use Rattle.sql_phrases.specs.sql_query.specs.Trees.{ConditionTree}
 use Rattle.sql_phrases.specs.declared.tables.CacheTable.{CacheTable}
 use Rattle.sql_phrases.specs.Reading.{begins}
 use Rattle.sql_phrases.specs.Conditions.{filter_of}
 use Rattle.sql_phrases.specs.Tables.{table_of}
 use Rattle.sql_phrases.proofs.Shrinking.{drop_shrinks, choice_shrinks, filter_shrinks, table_shrinks}
-use Rattle.sql_subset.specs.declared.stmt.AgingClause.{AgingClause}
 use Rattle.sql_subset.specs.declared.stmt.AgingRule.{AgingRule}
 use Rattle.sql_subset.specs.declared.stmt.GroupKind.{GroupKind}
 use Rattle.sql_subset.specs.Groups.{cycle_of, long_of, time_rule_of, aging_rule_of, switched, as_aging, aging_of, aged, filtered, claused, group_table_of}

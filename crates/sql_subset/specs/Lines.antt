@@ -1,14 +1,17 @@
 -- What a request line says.
 use Rattle.std.specs.Prelude.{ℕ, ◌≡◌, Bool, true, false, nat_eq, nat_lt, List, [], ◌∷◌, length, slice_get, drop, map, codes, bytes_eq, Option, Some, None, Result, Ok, Err, if◌then◌else◌}
+use Rattle.std.specs.Global.{Vec}
 use Rattle.sql_phrases.specs.tier_base.specs.Labels.{is_label}
 use Rattle.sql_phrases.specs.sql_tokens.specs.declared.kind.Kind.{Kind}
-use Rattle.sql_phrases.specs.sql_tokens.specs.Lexing.{Lexeme, lexed}
+use Rattle.sql_phrases.specs.sql_tokens.specs.declared.token.Token.{Token}
+use Rattle.sql_phrases.specs.sql_tokens.specs.Lexing.{Lexeme, lexed, lexemes_of}
 use Rattle.sql_phrases.specs.sql_tokens.specs.Heads.{head_of, head_end, good_length}
 use Rattle.sql_phrases.specs.sql_grammar.specs.declared.start.Start.{Start}
 use Rattle.sql_phrases.specs.sql_grammar.specs.declared.start.Start.TheVariants as starts
 use Rattle.sql_phrases.specs.sql_grammar.specs.declared.engine.Verdict.TheVariants as verdicts
 use Rattle.sql_phrases.specs.sql_grammar.specs.Sql.{grammar_of}
 use Rattle.sql_phrases.specs.sql_grammar.specs.Verdict.{IsSpelt, Judged}
+use Rattle.sql_subset.specs.declared.line.SpeltLine.{SpeltLine}
 use Rattle.sql_subset.specs.declared.stmt.Stmt.{Stmt}
 use Rattle.sql_subset.specs.declared.request.Line.{Line}
 use Rattle.sql_subset.specs.declared.request.Line.TheVariants as line
@@ -75,6 +78,11 @@ Told s head end ls (Err (e.At p)) = Spoken s head end ls (WrongAt p)
 Told s head end ls (Err e.Depth) = Spoken s head end ls TooDeep
 Told s head end ls (Err e.Memory) = Unit {0}
 
+-- what tokens say that were found, or why none were
+abbrev pub tokens_said : Start → List ℕ → List ℕ → Result (Vec Token) ParseError → Result Line ParseError
+tokens_said s head line (Ok tokens) = Ok (line_of s head (lexemes_of line tokens.items))
+tokens_said s head line (Err x) = Err x
+
 -- What a line says of which the tokens count, or not for its first bad byte.
 abbrev pub Checked : Bool → Start → List ℕ → Saying → Type 0
 Checked true s bytes x = x ≡ WrongAt (good_length bytes)
@@ -101,6 +109,18 @@ Answers bytes (Ok (Some l)) = Means bytes (Says l)
 Answers bytes (Err (e.At p)) = Means bytes (WrongAt p)
 Answers bytes (Err e.Depth) = Means bytes TooDeep
 Answers bytes (Err e.Memory) = is_silent bytes ≡ false
+
+-- what a line says of which the tokens were found, or why none were
+abbrev pub line_said : List ℕ → Result (Option SpeltLine) ParseError → Result (Option Line) ParseError
+line_said bytes (Ok None) = Ok None
+line_said bytes (Ok (Some l)) = Ok (Some (line_of l.start l.head.now (lexemes_of bytes l.tokens.items)))
+line_said bytes (Err x) = Err x
+
+-- The answer to whether a line says something.
+abbrev pub SaysSomething : List ℕ → Result Bool ParseError → Type 0
+SaysSomething bytes (Ok false) = Means bytes Silent
+SaysSomething bytes (Ok true) = (l : Line) × Means bytes (Says l)
+SaysSomething bytes (Err x) = Answers bytes (Err x)
 
 -- some byte is a bad one
 abbrev pub is_spoilt : List ℕ → Bool

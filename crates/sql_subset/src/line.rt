@@ -1,7 +1,7 @@
 //! Request lines, from their bytes.
 ghost use Rattle.std.specs.Prelude.{◌≡◌, ◌≤◌, ℕ, List, length, IfOk};
 ghost use Rattle.sql_phrases.specs.sql_tokens.specs.Lexing.{lexemes_of, lexed};
-ghost use Rattle.sql_subset.specs.Lines.{is_silent, start_of, place_at, line_of, Told, Answers, Parses, Means, Saying};
+ghost use Rattle.sql_subset.specs.Lines.{is_silent, start_of, place_at, line_of, Told, Answers, Parses, Means, Saying, SaysSomething, line_said, tokens_said};
 
 use crate::request::{Line, ParseError};
 use crate::statements::{read_clock, read_console, read_request, read_statement};
@@ -79,39 +79,48 @@ fn read_line(start: Start, head: &[u8], r: Reader<'_>) -> Result<Line, AllocErro
     }
 }
 
-/// What the tokens behind the head say.
-fn parse_tokens(
+/// The tokens of the line from this place on, where they are spelt by the grammar of who speaks.
+fn spelt_tokens(
     alloc: Global,
     start: Start,
-    head: &[u8],
     line: &[u8],
     from: usize,
-) -> Result<Line, ParseError>
+) -> Result<Vec<Token>, ParseError>
     requires { from ≤ length line.now }
-    ensures { Told start head.now (length line.now) (lexed from line.now) result }
+    ensures { (head : List ℕ) → Told start head (length line.now) (lexed from line.now)
+        (tokens_said start head line.now result) }
 {
     let Ok(tokens) = lex(alloc, line, from) else {
         return Err(ParseError::Memory);
     };
     match recognize(alloc, start, &tokens) {
-        Err(_) => return Err(ParseError::Memory),
-        Ok(Verdict::At(i)) => return Err(ParseError::At(place_of(line, &tokens, i))),
-        Ok(Verdict::Deep) => return Err(ParseError::Depth),
-        Ok(Verdict::Fits) => {}
-    }
-    match read_line(start, head, Reader::new(alloc, line, &tokens)) {
-        Ok(line) => Ok(line),
         Err(_) => Err(ParseError::Memory),
+        Ok(Verdict::At(i)) => Err(ParseError::At(place_of(line, &tokens, i))),
+        Ok(Verdict::Deep) => Err(ParseError::Depth),
+        Ok(Verdict::Fits) => Ok(tokens),
     }
 }
 
-/// What the line says; nothing where it is silent, for which no memory is taken.
-///
-/// `At` tells the first byte of the first token with which no request goes on, or the line's length at its end; 0
-/// where the line has no label; and the first bad byte where it has one. `Depth` comes where that token goes on only
-/// more than 32 levels deep.
-pub fn parse_line(alloc: Global, bytes: &[u8]) -> Result<Option<Line>, ParseError>
-    ensures { Answers bytes.now result }
+/// A line that is spelt right: who speaks, the head, and the tokens behind it.
+struct SpeltLine<'a> {
+    start: Start,
+    head: &'a [u8],
+    tokens: Vec<Token>,
+}
+
+impl Drop for SpeltLine<'_> {
+    fn drop(self) {
+        let Self {
+            start: _,
+            head: _,
+            tokens: _,
+        } = self;
+    }
+}
+
+/// The line, where it is spelt right; nothing where it is silent.
+fn spelt_line(alloc: Global, bytes: &[u8]) -> Result<Option<SpeltLine<'_>>, ParseError>
+    ensures { Answers bytes.now (line_said bytes.now result) }
 {
     if is_silent(bytes) {
         return Ok(None);
@@ -125,8 +134,50 @@ pub fn parse_line(alloc: Global, bytes: &[u8]) -> Result<Option<Line>, ParseErro
     if good < bytes.len() {
         return Err(ParseError::At(good));
     }
-    match parse_tokens(alloc, start, head, bytes, to) {
-        Ok(line) => Ok(Some(line)),
+    match spelt_tokens(alloc, start, bytes, to) {
+        Ok(tokens) => Ok(Some(SpeltLine {
+            start,
+            head,
+            tokens,
+        })),
+        Err(error) => Err(error),
+    }
+}
+
+/// Whether the line says something: it doesn't where it is silent, for which no memory is taken. What it says isn't
+/// read.
+///
+/// The errors are those of `parse_line`.
+pub fn says_something(alloc: Global, bytes: &[u8]) -> Result<bool, ParseError>
+    ensures { SaysSomething bytes.now result }
+{
+    match spelt_line(alloc, bytes) {
+        Ok(None) => Ok(false),
+        Ok(Some(_)) => Ok(true),
+        Err(error) => Err(error),
+    }
+}
+
+/// What the line says; nothing where it is silent, for which no memory is taken.
+///
+/// `At` tells the first byte of the first token with which no request goes on, or the line's length at its end; 0
+/// where the line has no label; and the first bad byte where it has one. `Depth` comes where that token goes on only
+/// more than 32 levels deep.
+pub fn parse_line(alloc: Global, bytes: &[u8]) -> Result<Option<Line>, ParseError>
+    ensures { Answers bytes.now result }
+{
+    match spelt_line(alloc, bytes) {
+        Ok(None) => Ok(None),
+        Ok(Some(spelt)) => {
+            match read_line(
+                spelt.start,
+                spelt.head,
+                Reader::new(alloc, bytes, &spelt.tokens),
+            ) {
+                Ok(line) => Ok(Some(line)),
+                Err(_) => Err(ParseError::Memory),
+            }
+        }
         Err(error) => Err(error),
     }
 }

@@ -1,3 +1,4 @@
 pub mod Letters
 pub mod Ranges
 pub mod Bytes
+pub mod Spelling

@@ -187,13 +187,22 @@ fn keywords_from(letter: u8) -> &'static [(&'static [u8], Kind)]
 fn is_spelled(word: &[u8], keyword: &[u8]) -> bool
     ensures { result ≡ spells word.now keyword.now }
 {
-    match (word.split_first(), keyword.split_first()) {
-        (None, None) => true,
-        (Some((byte, word)), Some((letter, keyword))) => {
-            byte.to_ascii_uppercase() == *letter && is_spelled(word, keyword)
-        }
-        _ => false,
+    if word.len() != keyword.len() {
+        return false;
     }
+    let mut bytes = word;
+    let mut letters = keyword;
+    while let (Some((byte, after)), Some((letter, others))) = (
+        bytes.split_first(),
+        letters.split_first(),
+    ) {
+        if byte.to_ascii_uppercase() != *letter {
+            return false;
+        }
+        bytes = after;
+        letters = others;
+    }
+    true
 }
 
 fn find(list: &[(&[u8], Kind)], word: &[u8]) -> Kind
